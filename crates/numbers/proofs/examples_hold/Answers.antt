@@ -1,0 +1,5 @@
+use Rattle.numbers.proofs.Examples.{examples}
+use Rattle.numbers.proofs.examples_hold.Needs as need
+
+pub returns : need.returns
+returns c = examples

@@ -1,0 +1,105 @@
+-- What the steps of reading a word find: only the contracts of private functions speak of these.
+use mathlib.Core.Path.{_≡_}
+use mathlib.Core.List.{List, [], _∷_, _++_}
+use mathlib.Core.Bool.{Bool, true, false}
+use Prim.Native.Nat.{ℕ, _+_, _*_, _^_, _≤_, _<_}
+use lib.IntN.{ℤ}
+use lib.ListN.{length}
+use Rattle.numbers.specs.declared.Unit.{Unit as Measure}
+use Rattle.numbers.specs.declared.NumberFault.{NumberFault}
+use Rattle.numbers.specs.declared.NumberFault.the-variants.{Form, Fraction, Range}
+use Rattle.numbers.specs.Numerals.{Digit, AllDigits, SomeDigits, numberOn, Mark, Power, Numeral, markText, pointText, powerText, bodyText, text, ProperPower, Proper, riseBy, fallBy, rise, fall, mantissa, places, signedAs}
+use Rattle.numbers.specs.Reading.{WellFormed, Means}
+
+-- no digit, and no point, comes first
+abbrev pub NoDigit : List ℕ → Type 0
+NoDigit [] = Unit {0}
+NoDigit (c ∷ cs) = Digit c → ⊥
+
+abbrev pub NoPoint : List ℕ → Type 0
+NoPoint [] = Unit {0}
+NoPoint (c ∷ cs) = c ≡ 46 → ⊥
+
+-- front is all the digits at the front of s
+pub record Splits (s front rest : List ℕ) : Type 0 where
+  pub joined : s ≡ front ++ rest
+  pub digits : AllDigits front
+  pub stops : NoDigit rest
+
+-- ds is what stands after a point at the front of s
+pub record Pointed (s ds rest : List ℕ) : Type 0 where
+  pub joined : s ≡ pointText ds ++ rest
+  pub digits : AllDigits ds
+  pub stops : NoDigit rest
+  pub pointless : length ds ≡ 0 → NoPoint rest
+
+-- s is a point with no digit after it
+pub record LonePoint (s : List ℕ) : Type 0 where
+  pub rest : List ℕ
+  pub joined : s ≡ 46 ∷ rest
+  pub stops : NoDigit rest
+
+-- s is a sign and digits: an exponent without its letter
+pub record SizeIs (s : List ℕ) (up down : ℕ) : Type 0 where
+  pub mark : Mark
+  pub ds : List ℕ
+  pub digits : SomeDigits ds
+  pub joined : markText mark ++ ds ≡ s
+  pub rises : up ≡ riseBy mark (numberOn 0 ds)
+  pub falls : down ≡ fallBy mark (numberOn 0 ds)
+
+abbrev pub NoSize : List ℕ → Type 0
+NoSize s = (mark : Mark) (ds : List ℕ) → SomeDigits ds → markText mark ++ ds ≡ s → ⊥
+
+-- s is an exponent, or empty
+pub record PowerIs (s : List ℕ) (up down : ℕ) : Type 0 where
+  pub tail : Power
+  pub proper : ProperPower tail
+  pub joined : powerText tail ≡ s
+  pub rises : up ≡ rise tail
+  pub falls : down ≡ fall tail
+
+abbrev pub NoPower : List ℕ → Type 0
+NoPower s = (t : Power) → ProperPower t → powerText t ≡ s → ⊥
+
+-- s writes, after the sign b, a number that is m * 10 ^ (up - down)
+pub record BodyIs (s : List ℕ) (b : Bool) (m up down : ℕ) : Type 0 where
+  pub numeral : Numeral
+  pub proper : Proper numeral
+  pub joined : bodyText numeral ≡ s
+  pub sign : b ≡ numeral .negative
+  pub number : m ≡ mantissa numeral
+  pub rises : up ≡ rise (numeral .tail)
+  pub falls : down ≡ fall (numeral .tail) + places numeral
+
+abbrev pub NoBody : List ℕ → Type 0
+NoBody s = (w : Numeral) → Proper w → bodyText w ≡ s → ⊥
+
+-- the same with its sign
+pub record NumeralIs (s : List ℕ) (b : Bool) (m up down : ℕ) : Type 0 where
+  pub numeral : Numeral
+  pub proper : Proper numeral
+  pub joined : text numeral ≡ s
+  pub sign : b ≡ numeral .negative
+  pub number : m ≡ mantissa numeral
+  pub rises : up ≡ rise (numeral .tail)
+  pub falls : down ≡ fall (numeral .tail) + places numeral
+
+abbrev pub NoNumeral : List ℕ → Type 0
+NoNumeral s = (w : Numeral) → Proper w → text w ≡ s → ⊥
+
+-- m * 10 ^ (up - down) is n units, of which 10 ^ scale make one
+abbrev pub Scaled : ℕ → ℕ → ℕ → ℕ → ℕ → Type 0
+Scaled m up down scale n = m * 10 ^ (up + scale) ≡ n * 10 ^ down
+
+-- it is no whole number of units, or too many whatever its sign
+abbrev pub Unscaled : ℕ → ℕ → ℕ → ℕ → NumberFault → Type 0
+Unscaled m up down scale Form = ⊥
+Unscaled m up down scale Fraction = (n : ℕ) → Scaled m up down scale n → ⊥
+Unscaled m up down scale Range = (n : ℕ) × (Scaled m up down scale n × (2147483648 < n))
+
+-- the word bs is no number of units at most 2 ^ 31, apart from its sign
+abbrev pub Unread : List ℕ → Measure → NumberFault → Type 0
+Unread bs unit Form = WellFormed bs → ⊥
+Unread bs unit Fraction = WellFormed bs × ((z : ℤ) → Means bs unit z → ⊥)
+Unread bs unit Range = (b : Bool) × (n : ℕ) × (Means bs unit (signedAs b n) × (2147483648 < n))

@@ -1,0 +1,4 @@
+mod Cuts
+mod Counting
+mod Letters
+mod Printing
