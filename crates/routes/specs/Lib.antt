@@ -1,0 +1,7 @@
+-- What the contracts speak of.
+pub mod Paths
+pub mod Laws
+pub mod Example
+pub mod Grids
+pub mod Listed
+pub mod Levels
