@@ -1,18 +1,17 @@
 -- A full table: its ATC, and what a take and a notice leave.
 use mathlib.Core.Path.{_≡_, refl, sym, ap, _∙_, fun-ext}
-use mathlib.Core.Bool.{Bool, true, false, cond, _&&_, _||_, not}
-use mathlib.Core.List.{List, [], _∷_}
-use mathlib.Core.Logic.{_≢_, _⊎_, inl, inr, ⊎-elim}
-use Prim.Native.Nat.{ℕ, zero, suc, _+_, _-_, _*_, _≤_, _<_, min, max}
-use native.Mathlib.Nat.{min-comm, max-comm}
+use mathlib.Core.Bool.{Bool, true, false, cond, _&&_}
+use mathlib.Core.List.{List}
+use mathlib.Core.Logic.{⊎-elim}
+use Prim.Native.Nat.{ℕ, _+_, _-_, _≤_}
 use native.Mathlib.Omega.{arith}
-use lib.Dec.{eqb, leb, ltb}
-use lib.IntN.{ℤ, pos, _+ℤ_, _-ℤ_, negℤ}
+use lib.Dec.{leb}
+use lib.IntN.{ℤ, pos, _+ℤ_, _-ℤ_}
 use lib.Signed.{_≤ℤ_}
 use lib.ListN.{getD, set, length, length-set, replicate}
 use lib.Seq.{getD-set-same, getD-set-other}
 use Rattle.std.proofs.shelf.Signed.{ints}
-use Rattle.std.proofs.shelf.Tests.{cases-eq, cases-bool, and-parts, and-from, and-right, ltb-true, leb-true, eqb-true, eq-eqb, le-leb, le-ltb, both-ways, not-from-true, or-from, and-left}
+use Rattle.std.proofs.shelf.Tests.{cases-bool, and-parts, and-from, leb-true, eq-eqb, le-leb, le-ltb, both-ways, not-from-true, or-from, and-left}
 use Rattle.capacity.specs.declared.figures.Figures.{Figures}
 use Rattle.capacity.specs.Directions.{is-way-in, put}
 use Rattle.capacity.specs.Meaning.{Capacity, atc, taken, noticed}
@@ -21,6 +20,7 @@ use Rattle.capacity.specs.Tables.{linked, on, place, figure, full, fresh}
 use Rattle.capacity.specs.Soundness.{linked-back, linked-areas, figure-on, figure-off}
 use Rattle.capacity.proofs.Lists.{getD-same}
 use Rattle.capacity.proofs.Passes.{Passes}
+use Rattle.capacity.proofs.Puts.{way-back, put-there, put-back, put-else, by-way}
 
 pub fresh-is : (j : ℕ → ℕ → Bool) (n : ℕ) → full j (replicate n 0) (replicate n 0) (replicate n 0) ≡ fresh j
 fresh-is j n =
@@ -49,33 +49,7 @@ take-bound j ns ls us hn hl c a b q i i′ e f ei ej h =
     let g = rw (figure-on j ns c a b e, figure-on j ls c a b e, figure-on j ls c b a f, figure-on j us c a b e, figure-on j us c b a f) at h in
     rw (ei, ej) (omega (arith, ints))
 
--- ---- one direction, written
-
-turned : (p q r : Bool) → (p && (q && r)) ≡ (p && (r && q))
-turned false q r = refl
-turned true false false = refl
-turned true false true = refl
-turned true true false = refl
-turned true true true = refl
-
-pub way-back : (k x y c a b : ℕ) → is-way-in k x y c b a ≡ is-way-in k y x c a b
-way-back k x y c a b = turned (eqb c k) (eqb b x) (eqb a y)
-
-pub same-way : (k x y c a b : ℕ) → is-way-in k x y c a b ≡ true → (c ≡ k) × (a ≡ x) × (b ≡ y)
-same-way k x y c a b e =
-    let p = and-parts _ _ e in
-    let q = and-parts _ _ (p .1) in
-    (eqb-true c k (p .0), eqb-true a x (q .0), eqb-true b y (q .1))
-
-pub other-way : (k x y c a b : ℕ) → ((c ≡ k) → (a ≡ x) → (b ≡ y) → ⊥) → is-way-in k x y c a b ≡ false
-other-way k x y c a b no-way =
-    ⊎-elim
-    (λ (e : is-way-in k x y c a b ≡ true). let s = same-way k x y c a b e in absurd (no-way (s .0) (s .1) (s .2)))
-    (λ (e : is-way-in k x y c a b ≡ false). e)
-    (cases-bool (is-way-in k x y c a b))
-
-pub this-way-in : (k x y : ℕ) → is-way-in k x y k x y ≡ true
-this-way-in k x y = and-from _ _ (eq-eqb k k refl) (and-from _ _ (eq-eqb x x refl) (eq-eqb y y refl))
+-- ---- one connector, written
 
 pub on-parts : (js : List Bool) (c a b : ℕ) → on (linked js) c a b ≡ true → (c ≤ 23) × (a ≤ 15) × (b ≤ 15) × (a ≡ b → ⊥)
 on-parts js c a b e =
@@ -86,67 +60,48 @@ on-parts js c a b e =
 pub on-back : (js : List Bool) (c a b : ℕ) → on (linked js) c a b ≡ true → on (linked js) c b a ≡ true
 on-back js c a b e = ap (λ t. leb c 23 && t) (linked-back js a b) ∙ e
 
--- what put leaves at each of its three places
-pub put-there : {X : Type 0} (f : ℕ → ℕ → ℕ → X) (k x y : ℕ) (v w : X) → put f k x y v w k x y ≡ v
-put-there f k x y v w = rw (this-way-in k x y) refl
-
-pub put-back : {X : Type 0} (f : ℕ → ℕ → ℕ → X) (k x y : ℕ) (v w : X) → (x ≡ y → ⊥) → put f k x y v w k y x ≡ w
-put-back f k x y v w ne = rw (other-way k x y k y x (λ _ e _. ne (sym e)), this-way-in k y x) refl
-
-pub put-else : {X : Type 0} (f : ℕ → ℕ → ℕ → X) (k x y : ℕ) (v w : X) (c a b : ℕ) → is-way-in k x y c a b ≡ false → is-way-in k y x c a b ≡ false → put f k x y v w c a b ≡ f c a b
-put-else f k x y v w c a b p q = rw (p, q) refl
-
--- by cases: there, back, or elsewhere
-pub by-way : (P : ℕ → ℕ → ℕ → Type 0) (k x y : ℕ) → P k x y → P k y x → ((c a b : ℕ) → is-way-in k x y c a b ≡ false → is-way-in k y x c a b ≡ false → P c a b) → (c a b : ℕ) → P c a b
-by-way P k x y there back other c a b =
-    ⊎-elim
-    (λ (e : is-way-in k x y c a b ≡ true). let s = same-way k x y c a b e in rw (s .0, s .1, s .2) there)
-    (λ (e : is-way-in k x y c a b ≡ false).
-    ⊎-elim
-    (λ (f : is-way-in k y x c a b ≡ true). let s = same-way k y x c a b f in rw (s .0, s .1, s .2) back)
-    (λ (f : is-way-in k y x c a b ≡ false). other c a b e f)
-    (cases-bool (is-way-in k y x c a b)))
-    (cases-bool (is-way-in k x y c a b))
-
 -- two directions at one place are one
 pub one-place : (k x y c a b : ℕ) → x ≤ 15 → y ≤ 15 → a ≤ 15 → b ≤ 15 → place c a b ≡ place k x y → is-way-in k x y c a b ≡ true
 one-place k x y c a b hx hy ha hb s =
     and-from _ _ (eq-eqb c k (omega arith)) (and-from _ _ (eq-eqb a x (omega arith)) (eq-eqb b y (omega arith)))
 
--- a table with two places written, by direction
-pub figure-put : (js : List Bool) (xs : List ℕ) (k x y v w : ℕ) → on (linked js) k x y ≡ true → length xs ≡ 6144 → (c a b : ℕ) → figure (linked js) (set (set xs (place k x y) v) (place k y x) w) c a b ≡ put (figure (linked js) xs) k x y v w c a b
+-- a table with both directions of one connector written
+abbrev pub written : List ℕ → ℕ → ℕ → ℕ → ℕ → ℕ → List ℕ
+written xs k x y v w = set (set xs (place k x y) v) (place k y x) w
+
+pub figure-put : (js : List Bool) (xs : List ℕ) (k x y v w : ℕ) → on (linked js) k x y ≡ true → length xs ≡ 6144 → (c a b : ℕ) → figure (linked js) (written xs k x y v w) c a b ≡ put (figure (linked js) xs) k x y v w c a b
 figure-put js xs k x y v w h len =
-    by-way (λ c a b. figure (linked js) (set (set xs (place k x y) v) (place k y x) w) c a b ≡ put (figure (linked js) xs) k x y v w c a b) k x y there back other
+    by-way (λ c a b. figure (linked js) (written xs k x y v w) c a b ≡ put (figure (linked js) xs) k x y v w c a b) k x y there back other
   where
-    there : figure (linked js) (set (set xs (place k x y) v) (place k y x) w) k x y ≡ put (figure (linked js) xs) k x y v w k x y
+    there : figure (linked js) (written xs k x y v w) k x y ≡ put (figure (linked js) xs) k x y v w k x y
     there =
         let p = on-parts js k x y h in
-        figure-on (linked js) (set (set xs (place k x y) v) (place k y x) w) k x y h
+        figure-on (linked js) (written xs k x y v w) k x y h
         ∙ getD-set-other (set xs (place k x y) v) (place k y x) (place k x y) w 0 (λ e. p .3 (omega arith))
         ∙ getD-set-same xs (place k x y) v 0 (omega arith)
         ∙ sym (put-there (figure (linked js) xs) k x y v w)
 
-    back : figure (linked js) (set (set xs (place k x y) v) (place k y x) w) k y x ≡ put (figure (linked js) xs) k x y v w k y x
+    back : figure (linked js) (written xs k x y v w) k y x ≡ put (figure (linked js) xs) k x y v w k y x
     back =
         let p = on-parts js k x y h in
-        figure-on (linked js) (set (set xs (place k x y) v) (place k y x) w) k y x (on-back js k x y h)
+        figure-on (linked js) (written xs k x y v w) k y x (on-back js k x y h)
         ∙ getD-set-same (set xs (place k x y) v) (place k y x) w 0 (rw (length-set xs (place k x y) v) (omega arith))
         ∙ sym (put-back (figure (linked js) xs) k x y v w (p .3))
 
-    other : (c a b : ℕ) → is-way-in k x y c a b ≡ false → is-way-in k y x c a b ≡ false → figure (linked js) (set (set xs (place k x y) v) (place k y x) w) c a b ≡ put (figure (linked js) xs) k x y v w c a b
+    other : (c a b : ℕ) → is-way-in k x y c a b ≡ false → is-way-in k y x c a b ≡ false → figure (linked js) (written xs k x y v w) c a b ≡ put (figure (linked js) xs) k x y v w c a b
     other c a b e f = ⊎-elim
         (λ (o : on (linked js) c a b ≡ true).
         let p = on-parts js k x y h in
         let q = on-parts js c a b o in
         let n : place c a b ≡ place k x y → ⊥ = (λ s. both-ways (is-way-in k x y c a b) e (one-place k x y c a b (p .1) (p .2) (q .1) (q .2) s)) in
         let m : place c a b ≡ place k y x → ⊥ = (λ s. both-ways (is-way-in k y x c a b) f (one-place k y x c a b (p .2) (p .1) (q .1) (q .2) s)) in
-        figure-on (linked js) (set (set xs (place k x y) v) (place k y x) w) c a b o
+        figure-on (linked js) (written xs k x y v w) c a b o
         ∙ getD-set-other (set xs (place k x y) v) (place k y x) (place c a b) w 0 m
         ∙ getD-set-other xs (place k x y) (place c a b) v 0 n
         ∙ sym (figure-on (linked js) xs c a b o)
         ∙ sym (put-else (figure (linked js) xs) k x y v w c a b e f))
         (λ (o : on (linked js) c a b ≡ false).
-        figure-off (linked js) (set (set xs (place k x y) v) (place k y x) w) c a b o
+        figure-off (linked js) (written xs k x y v w) c a b o
         ∙ sym (figure-off (linked js) xs c a b o)
         ∙ sym (put-else (figure (linked js) xs) k x y v w c a b e f))
         (cases-bool (on (linked js) c a b))
@@ -161,15 +116,15 @@ full-taken js ns ls us k x y q v w i j h len ei ej total =
     sum = rw (ei, ej) at total
 
     P : ℕ → ℕ → ℕ → Type 0
-    P c a b = pos (figure (linked js) (set (set us (place k x y) v) (place k y x) w) c a b) -ℤ pos (figure (linked js) (set (set us (place k x y) v) (place k y x) w) c b a) ≡ taken (full (linked js) ns ls us) k x y q .net c a b
+    P c a b = pos (figure (linked js) (written us k x y v w) c a b) -ℤ pos (figure (linked js) (written us k x y v w) c b a) ≡ taken (full (linked js) ns ls us) k x y q .net c a b
 
     ne : x ≡ y → ⊥
     ne = on-parts js k x y h .3
 
-    to-v : figure (linked js) (set (set us (place k x y) v) (place k y x) w) k x y ≡ v
+    to-v : figure (linked js) (written us k x y v w) k x y ≡ v
     to-v = figure-put js us k x y v w h len k x y ∙ put-there (figure (linked js) us) k x y v w
 
-    to-w : figure (linked js) (set (set us (place k x y) v) (place k y x) w) k y x ≡ w
+    to-w : figure (linked js) (written us k x y v w) k y x ≡ w
     to-w = figure-put js us k x y v w h len k y x ∙ put-back (figure (linked js) us) k x y v w ne
 
     was-v : figure (linked js) us k x y ≡ getD us (place k x y) 0
@@ -181,7 +136,7 @@ full-taken js ns ls us k x y q v w i j h len ei ej total =
     there : P k x y
     there =
         let mid : pos v -ℤ pos w ≡ (pos (figure (linked js) us k x y) -ℤ pos (figure (linked js) us k y x)) +ℤ pos q = rw (was-v, was-w) (omega (arith, ints, sum)) in
-        ap (λ t. pos t -ℤ pos (figure (linked js) (set (set us (place k x y) v) (place k y x) w) k y x)) to-v
+        ap (λ t. pos t -ℤ pos (figure (linked js) (written us k x y v w) k y x)) to-v
         ∙ ap (λ t. pos v -ℤ pos t) to-w
         ∙ mid
         ∙ sym (put-there (full (linked js) ns ls us .net) k x y _ _)
@@ -189,14 +144,14 @@ full-taken js ns ls us k x y q v w i j h len ei ej total =
     back : P k y x
     back =
         let mid : pos w -ℤ pos v ≡ (pos (figure (linked js) us k y x) -ℤ pos (figure (linked js) us k x y)) -ℤ pos q = rw (was-v, was-w) (omega (arith, ints, sum)) in
-        ap (λ t. pos t -ℤ pos (figure (linked js) (set (set us (place k x y) v) (place k y x) w) k x y)) to-w
+        ap (λ t. pos t -ℤ pos (figure (linked js) (written us k x y v w) k x y)) to-w
         ∙ ap (λ t. pos w -ℤ pos t) to-v
         ∙ mid
         ∙ sym (put-back (full (linked js) ns ls us .net) k x y _ _ ne)
 
     other : (c a b : ℕ) → is-way-in k x y c a b ≡ false → is-way-in k y x c a b ≡ false → P c a b
     other c a b e f =
-        ap (λ t. pos t -ℤ pos (figure (linked js) (set (set us (place k x y) v) (place k y x) w) c b a)) (figure-put js us k x y v w h len c a b ∙ put-else (figure (linked js) us) k x y v w c a b e f)
+        ap (λ t. pos t -ℤ pos (figure (linked js) (written us k x y v w) c b a)) (figure-put js us k x y v w h len c a b ∙ put-else (figure (linked js) us) k x y v w c a b e f)
         ∙ ap (λ t. pos (figure (linked js) us c a b) -ℤ pos t) (figure-put js us k x y v w h len c b a ∙ put-else (figure (linked js) us) k x y v w c b a (way-back k x y c a b ∙ f) (way-back k y x c a b ∙ e))
         ∙ sym (put-else (full (linked js) ns ls us .net) k x y _ _ c a b e f)
 
@@ -204,7 +159,7 @@ full-taken js ns ls us k x y q v w i j h len ei ej total =
 pub full-noticed : (js : List Bool) (ns ls us : List ℕ) (k x y : ℕ) (f : Figures) (i j : ℕ) → on (linked js) k x y ≡ true → length ns ≡ 6144 → length ls ≡ 6144 → i ≡ place k x y → j ≡ place k y x → full (linked js) (set (set ns i (f .ntc)) j (f .«ntc_back»)) (set (set ls i (f .aac)) j (f .«aac_back»)) us ≡ noticed (full (linked js) ns ls us) k x y f
 full-noticed js ns ls us k x y f i j h len len-l ei ej =
     rw (ei, ej)
-    (ap (λ (g : ℕ → ℕ → ℕ → ℕ). at g (figure (linked js) (set (set ls (place k x y) (f .aac)) (place k y x) (f .«aac_back»))) (on (linked js)) 0) (ext {X = ℕ} _ _ (figure-put js ns k x y (f .ntc) (f .«ntc_back») h len))
+    (ap (λ (g : ℕ → ℕ → ℕ → ℕ). at g (figure (linked js) (written ls k x y (f .aac) (f .«aac_back»))) (on (linked js)) 0) (ext {X = ℕ} _ _ (figure-put js ns k x y (f .ntc) (f .«ntc_back») h len))
     ∙ ap (λ (g : ℕ → ℕ → ℕ → ℕ). at (put (figure (linked js) ns) k x y (f .ntc) (f .«ntc_back»)) g (on (linked js)) 0) (ext {X = ℕ} _ _ (figure-put js ls k x y (f .aac) (f .«aac_back») h len-l))
     ∙ ap (λ (g : ℕ → ℕ → ℕ → Bool). at (put (figure (linked js) ns) k x y (f .ntc) (f .«ntc_back»)) (put (figure (linked js) ls) k x y (f .aac) (f .«aac_back»)) g 0) (ext {X = Bool} _ _ all)
     ∙ ap (λ (r : ℕ). at (put (figure (linked js) ns) k x y (f .ntc) (f .«ntc_back»)) (put (figure (linked js) ls) k x y (f .aac) (f .«aac_back»)) (put (on (linked js)) k x y true true) r) room)

@@ -1,17 +1,15 @@
 -- What a register's answers tell, and a layer that keeps more back.
-use mathlib.Core.Path.{_≡_, refl, sym, ap, _∙_}
-use mathlib.Core.Bool.{Bool, true, false, cond, _&&_, _||_, not}
-use Prim.Native.Nat.{ℕ, _+_, _≤_, _<_, min}
+use mathlib.Core.Path.{_≡_}
+use mathlib.Core.Bool.{true, false}
+use Prim.Native.Nat.{ℕ, _+_, _≤_}
 use native.Mathlib.Omega.{arith}
-use lib.Dec.{eqb, leb, ltb}
-use lib.IntN.{ℤ, pos, _+ℤ_, _-ℤ_}
+use lib.IntN.{ℤ, pos, _+ℤ_}
 use lib.Signed.{_≤ℤ_, ltZ}
 use Rattle.std.proofs.shelf.Signed.{ints}
 use Rattle.std.proofs.shelf.Ways.{tells}
 use Rattle.std.proofs.shelf.Tests.{le-ltb, ltb-false, or-parts, or-from, not-false, not-from-true}
-use Rattle.std.specs.declared.option.Option.{Option}
-use Rattle.std.specs.declared.option.Option.the-variants.{Some, None}
-use Rattle.capacity.specs.Meaning.{Capacity, atc, Sound, reserved, taken}
+use Rattle.std.specs.declared.option.Option.the-variants.{Some}
+use Rattle.capacity.specs.Meaning.{Capacity, atc, Sound, reserved}
 use Rattle.capacity.specs.Answers.{asked, take-tests}
 use Rattle.capacity.specs.Granted.{Granted}
 use Rattle.capacity.proofs.Passes.{Passes}

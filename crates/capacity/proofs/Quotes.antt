@@ -1,10 +1,8 @@
 -- One connector between areas 0 and 1, and what can flow on it under two layers.
 use mathlib.Core.Path.{_≡_, refl, sym, ap, _∙_}
 use mathlib.Core.Bool.{false}
-use Prim.Native.Nat.{ℕ, _≤_, _<_}
+use Prim.Native.Nat.{ℕ, _≤_}
 use native.Mathlib.Omega.{arith}
-use lib.IntN.{pos}
-use Rattle.std.specs.declared.option.Option.the-variants.{Some}
 use Rattle.capacity.specs.declared.example.Flow.{Flow}
 use Rattle.capacity.specs.Tests.{resulting}
 use Rattle.capacity.specs.Meaning.{Capacity, reserved}

@@ -1,6 +1,4 @@
 -- A notice and then a take on any register: NTC 200 and AAC 50 from 0 to 1 in contract 3, and 30 taken.
-use Prim.Native.Nat.{ℕ}
-use lib.IntN.{ℤ}
 use Rattle.capacity.specs.declared.example.Flow.{Flow}
 use Rattle.capacity.specs.declared.figures.Figures.{Figures}
 use Rattle.capacity.specs.Tests.{resulting}

@@ -22,7 +22,7 @@ pub struct Flow {
 }
 
 // From 0 to 1 in contract 3.
-pub fn both_ways<R: Register>(register: &R) -> Flow
+fn both_ways<R: Register>(register: &R) -> Flow
     ensures { λ r. ⌜ r ≡ «flow-in» (R·Register .meaning (now (register .entry))) ⌝ }
 {
     Flow {
@@ -32,7 +32,7 @@ pub fn both_ways<R: Register>(register: &R) -> Flow
 }
 
 // NTC 200 and AAC 50 from 0 to 1, then a take of 30: what can flow before the take and after it.
-pub fn quote<R: Register>(register: &mut R) -> (Flow, Flow)
+fn quote<R: Register>(register: &mut R) -> (Flow, Flow)
     ensures before { λ r. ⌜ r .0 ≡ «flow-in» («told-of» (R·Register .meaning (now (register .entry)))) ⌝ }
     ensures later { λ r. ⌜ r .1 ≡ «flow-in» («taken-from» («told-of» (R·Register .meaning (now (register .entry))))) ⌝ }
     ensures after { λ _. ⌜ R·Register .meaning (now (register .exit)) ≡ «taken-from» («told-of» (R·Register .meaning (now (register .entry)))) ⌝ }
@@ -50,7 +50,7 @@ pub fn quote<R: Register>(register: &mut R) -> (Flow, Flow)
 }
 
 // A layer over a layer over a full table; each layer keeps back what its map says.
-pub fn pile(inner: &ConnectorMap, outer: &ConnectorMap) -> Reserve<Reserve<FullTable>>
+fn pile(inner: &ConnectorMap, outer: &ConnectorMap) -> Reserve<Reserve<FullTable>>
     ensures { λ r. ⌜ layered (layered «table-of») r ≡ reserved (reserved (fresh («network-of» (now (inner .entry)) .joins)) («network-of» (now (inner .entry)) .kept)) («network-of» (now (outer .entry)) .kept) ⌝ }
 {
     Reserve::new(Reserve::new(FullTable::new(inner), inner), outer)

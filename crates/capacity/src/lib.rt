@@ -8,3 +8,5 @@ pub mod map;
 pub mod register;
 pub mod reserve;
 pub mod table;
+#[cfg(test)]
+mod tests;

@@ -1,5 +1,6 @@
 // The map of connectors, with what is kept back on each: made once, before any register.
 ghost use mathlib.Core.Path.{_≡_};
+ghost use Prim.Native.Nat.{_+_, _≤_};
 ghost use Rattle.capacity.specs.Tests.{answered, resulting, said};
 ghost use Rattle.capacity.specs.Faults.{«map-told»};
 ghost use Rattle.capacity.specs.Meaning.{reserved};
@@ -16,8 +17,8 @@ use crate::reserve::Reserve;
 use crate::table::FullTable;
 use crate::table::TableRegister;
 
-pub mod links;
-pub mod wishes;
+pub(crate) mod links;
+pub(crate) mod wishes;
 
 #[derive(Drop)]
 pub struct ConnectorMap {
@@ -40,6 +41,7 @@ impl ConnectorMap {
     pub fn connect(&mut self, from: u32, to: u32, held: u32, held_back: u32) -> Result<(), MapFault>
         ensures answer { λ r. ⌜ said «map-told» r ≡ answered («connect-tests» («network-of» (now (self .entry))) from to held «held_back») ⌝ }
         ensures after { λ _. ⌜ «network-of» (now (self .exit)) ≡ resulting («connect-tests» («network-of» (now (self .entry))) from to held «held_back») («network-of» (now (self .entry))) (connected («network-of» (now (self .entry))) from to held «held_back») ⌝ }
+        ensures count { λ _. ⌜ connectors («network-of» (now (self .exit)) .joins) ≡ resulting («connect-tests» («network-of» (now (self .entry))) from to held «held_back») (connectors («network-of» (now (self .entry)) .joins)) (connectors («network-of» (now (self .entry)) .joins) + 1) ⌝ }
     {
         if held > TOP_FIGURE || held_back > TOP_FIGURE {
             return Err(MapFault::Kept { from, to });
@@ -47,13 +49,28 @@ impl ConnectorMap {
         if from > LAST_AREA || to > LAST_AREA || from == to {
             return Err(MapFault::Connector { from, to });
         }
-        if self.links.joins(from, to) || self.links.count() >= MOST_CONNECTORS {
+        if self.joins(from, to) || self.count() >= MOST_CONNECTORS {
             return Err(MapFault::Connector { from, to });
         }
         self.links.join(from, to);
         self.wishes.keep(to, from, held_back);
         self.wishes.keep(from, to, held);
         Ok(())
+    }
+
+    // Whether a connector joins the two areas.
+    pub fn joins(&self, from: u32, to: u32) -> bool
+        ensures { λ r. ⌜ r ≡ «network-of» (now (self .entry)) .joins from to ⌝ }
+    {
+        self.links.joins(from, to)
+    }
+
+    // How many connectors there are, never above 32.
+    pub fn count(&self) -> u32
+        ensures value { λ r. ⌜ r ≡ connectors («network-of» (now (self .entry)) .joins) ⌝ }
+        ensures few { λ r. ⌜ r ≤ 32 ⌝ }
+    {
+        self.links.count()
     }
 
     pub(crate) fn links(&self) -> Links
@@ -73,12 +90,5 @@ impl ConnectorMap {
         ensures { λ r. ⌜ layered «table-of» r ≡ reserved (fresh («network-of» self .joins)) («network-of» self .kept) ⌝ }
     {
         Reserve::new(FullTable::new(&self), &self)
-    }
-
-    // How many connectors there are.
-    pub fn count(&self) -> u32
-        ensures { λ r. ⌜ r ≡ connectors («network-of» (now (self .entry)) .joins) ⌝ }
-    {
-        self.links.count()
     }
 }

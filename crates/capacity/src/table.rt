@@ -1,5 +1,5 @@
 // The full table: figures for every contract and every direction of a map.
-// They stand at 256 times the contract plus 16 times the first area plus the second;
+// They stand at 256 times the contract plus 16 times the first area plus the second, in 24 times 256 places;
 // `used` has what was taken in a direction beyond what was taken back.
 ghost use Prim.Native.Nat.{ℕ, _≤_};
 ghost use lib.ListN.{getD};

@@ -1,8 +1,8 @@
 -- Words that are written out. The exponent's digits stay a variable, so that no power of ten is worked out.
-use mathlib.Core.Path.{_≡_, refl, sym, _∙_}
+use mathlib.Core.Path.{_≡_, refl, sym}
 use mathlib.Core.List.{List, [], _∷_}
 use mathlib.Core.Bool.{Bool, true, false}
-use Prim.Native.Nat.{ℕ, zero, suc, _+_, _*_, _^_, _≤_, _<_}
+use Prim.Native.Nat.{ℕ, zero, suc, _+_, _*_, _^_, _≤_}
 use native.Mathlib.Nat.{zero-mul, suc-mul, mul-one, pow-le-pow-right}
 use native.Mathlib.Omega.{arith}
 use lib.Chars.{codes}
@@ -17,11 +17,10 @@ use Rattle.numbers.specs.Numerals.{Digit, SomeDigits, numberOn, Numeral, Write
 use Rattle.numbers.specs.Numerals.Letter.{small, capital}
 use Rattle.numbers.specs.Numerals.Mark.{none, minus}
 use Rattle.numbers.specs.Numerals.Power.{bare, power}
-use Rattle.numbers.specs.Scans.{Splits, LonePoint}
-use Rattle.numbers.specs.Reading.{Means, InRange, Answers}
+use Rattle.numbers.specs.Scans.{Splits, LonePoint, SignedBy}
+use Rattle.numbers.specs.Reading.{InRange, Answers}
 use Rattle.numbers.specs.Examples.{Examples}
-use Rattle.numbers.proofs.Bodies.{no-body-lone}
-use Rattle.numbers.proofs.Scaling.{no-plain}
+use Rattle.numbers.proofs.Bodies.{no-decimals}
 use Rattle.numbers.proofs.Once.{means-at}
 
 nought : Digit 48
@@ -88,8 +87,9 @@ module _ (ds : List ℕ) (digits : SomeDigits ds) (short : length ds ≤ 13) whe
 unfinished : Answers (codes "1.") Euro true (Err Form)
 unfinished p =
     let s : Splits (codes "1.") (codes "1") (codes ".") = record { joined = refl; digits = (one, tt); stops = λ d. omega (arith, d .0) } in
-    let l : LonePoint (codes ".") = record { rest = []; joined = refl; stops = tt } in
-    no-plain (codes "1.") (λ e. omega arith) (no-body-lone _ _ _ s l) (p .0) (p .1 .1) (p .1 .2)
+    let l : LonePoint (codes ".") = record { rest = []; joined = refl; stops = λ d. omega arith } in
+    let g : SignedBy (codes "1.") false (codes "1.") = record { joined = refl; signless = λ z e. omega arith } in
+    no-decimals _ _ _ _ false g s l (p .0) (p .1 .1) (p .1 .2)
 
 minus-nought : (sign : Bool) → InRange sign (pos 0) → Answers (codes "-0") Euro sign (Ok (pos 0))
 minus-nought sign r = (

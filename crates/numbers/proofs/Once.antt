@@ -1,14 +1,13 @@
 -- A word has one answer, and what a scan found gives it.
 use mathlib.Core.Path.{_≡_, refl, sym, ap, subst, _∙_}
-use mathlib.Core.List.{List, [], _∷_, _++_}
+use mathlib.Core.List.{List}
 use mathlib.Core.Bool.{Bool, true, false}
-use Prim.Native.Nat.{ℕ, _+_, _*_, _^_, _≤_, _<_}
+use Prim.Native.Nat.{ℕ, _+_, _^_, _≤_, _<_}
 use native.Mathlib.Nat.{eq-of-mul-eq-mul-right}
 use native.Mathlib.Omega.{arith}
 use lib.Dec.{lit<}
-use lib.IntN.{ℤ, pos}
+use lib.IntN.{ℤ, pos, negℤ}
 use lib.ListN.{length}
-use Rattle.std.specs.Results.{Cases as ByOk}
 use Rattle.std.specs.declared.result.Result.{Result}
 use Rattle.std.specs.declared.result.Result.the-variants.{Ok, Err}
 use Rattle.std.proofs.shelf.Signed.{ints}
@@ -16,27 +15,14 @@ use Rattle.numbers.specs.declared.Unit.{Unit as Measure}
 use Rattle.numbers.specs.declared.Unit.the-variants.{Count, Megawatt, Euro}
 use Rattle.numbers.specs.declared.NumberFault.{NumberFault}
 use Rattle.numbers.specs.declared.NumberFault.the-variants.{Form, Fraction, Range}
-use Rattle.numbers.specs.Numerals.{Letter, letterByte, SomeDigits, Mark, Power, Numeral, markText, minusText, powerText, bodyText, text, ProperPower, Proper, Writes, Counts, fall, places, signedAs}
+use Rattle.numbers.specs.Numerals.{Letter, letterByte, Power, Numeral, powerText, bodyText, text, ProperPower, Proper, Writes, Counts, fall, places, signedAs}
 use Rattle.numbers.specs.Numerals.Letter.{small, capital}
-use Rattle.numbers.specs.Numerals.Mark.{none, plus, minus}
 use Rattle.numbers.specs.Numerals.Power.{bare, power}
-use Rattle.numbers.specs.Scans.{NoPoint, NumeralIs, Scaled, Unscaled, Unread}
-use Rattle.numbers.specs.Reading.{scaleOf, WellFormed, Means, InRange, Answers, asSigned, OnlySigned, OnlyUnsigned}
+use Rattle.numbers.specs.Scans.{NumeralIs, Scaled, Unscaled, Unread, Fitted}
+use Rattle.numbers.specs.Reading.{scaleOf, Means, InRange, Answers, asSigned, OnlySigned, OnlyUnsigned}
 use Rattle.numbers.proofs.Laws.{heads, tails, ten-pos}
-use Rattle.numbers.proofs.Scanned.{not-first}
-use Rattle.numbers.proofs.Bodies.{one-split, tail-at, no-digit-point, no-digit-power, no-point-power}
-use Rattle.numbers.proofs.Scaling.{no-minus}
-
-mark-once : (m n : Mark) (ds es : List ℕ) → SomeDigits ds → SomeDigits es → markText m ++ ds ≡ markText n ++ es → (m ≡ n) × (ds ≡ es)
-mark-once none none ds es p q e = (refl, e)
-mark-once none plus ds es p q e = absurd (not-first 43 es ds (λ g. omega arith) p e)
-mark-once none minus ds es p q e = absurd (not-first 45 es ds (λ g. omega arith) p e)
-mark-once plus none ds es p q e = absurd (not-first 43 ds es (λ g. omega arith) q (sym e))
-mark-once plus plus ds es p q e = (refl, tails _ _ _ _ e)
-mark-once plus minus ds es p q e = absurd (omega (arith, heads _ _ _ _ e))
-mark-once minus none ds es p q e = absurd (not-first 45 ds es (λ g. omega arith) q (sym e))
-mark-once minus plus ds es p q e = absurd (omega (arith, heads _ _ _ _ e))
-mark-once minus minus ds es p q e = (refl, tails _ _ _ _ e)
+use Rattle.numbers.proofs.Scanned.{digits-lack, sign-at, mark-at}
+use Rattle.numbers.proofs.Bodies.{one-split, tail-at, no-digit-point, no-digit-power, no-point-power, body-lacks}
 
 letter-once : (l k : Letter) → letterByte l ≡ letterByte k → l ≡ k
 letter-once small small e = refl
@@ -49,25 +35,15 @@ power-once bare bare p q e = refl
 power-once bare (power k n es) p q e = absurd (omega (arith, ap length e))
 power-once (power l m ds) bare p q e = absurd (omega (arith, ap length e))
 power-once (power l m ds) (power k n es) p q e =
-    let h = mark-once m n ds es p q (tails _ _ _ _ e) in
+    let h = mark-at m n ds es p (λ z. digits-lack es q) (tails _ _ _ _ e) in
     let a : l ≡ k = letter-once l k (heads _ _ _ _ e) in
     λ i. power (a i) (h .0 i) (h .1 i)
 
-sign-once : (a b : Bool) (v w : Numeral) → Proper v → Proper w → minusText a ++ bodyText v ≡ minusText b ++ bodyText w → (a ≡ b) × (bodyText v ≡ bodyText w)
-sign-once true true v w p q e = (refl, tails _ _ _ _ e)
-sign-once true false v w p q e = absurd (no-minus (w .whole) _ (bodyText v) (q .0) (sym e))
-sign-once false true v w p q e = absurd (no-minus (v .whole) _ (bodyText w) (p .0) e)
-sign-once false false v w p q e = (refl, e)
-
-no-point-tail : (t : Power) → ProperPower t → NoPoint (powerText t)
-no-point-tail bare p = tt
-no-point-tail (power l m ds) p = λ e. no-point-power (power l m ds) (markText m ++ ds) p (ap (λ x. x ∷ (markText m ++ ds)) e)
-
 pub text-once : (v w : Numeral) → Proper v → Proper w → text v ≡ text w → v ≡ w
 text-once v w p q e =
-    let s = sign-once (v .negative) (w .negative) v w p q e in
+    let s = sign-at (v .negative) (w .negative) (bodyText v) (bodyText w) (body-lacks v p) (λ z. body-lacks w q) e in
     let b = one-split (v .whole) _ (w .whole) _ (p .0 .1) (no-digit-point (v .decimals) (v .tail) (p .2)) (q .0 .1) (no-digit-point (w .decimals) (w .tail) (q .2)) (s .1) in
-    let d = tail-at (v .decimals) (v .tail) (w .decimals) (powerText (w .tail)) (p .1) (p .2) (q .1) (no-digit-power (w .tail) (q .2)) (λ z. no-point-tail (w .tail) (q .2)) (b .1) in
+    let d = tail-at (v .decimals) (v .tail) (w .decimals) (powerText (w .tail)) (p .1) (p .2) (q .1) (no-digit-power (w .tail) (q .2)) (λ z. no-point-power (w .tail)) (b .1) in
     let t = power-once (v .tail) (w .tail) (p .2) (q .2) (d .1) in
     λ i. record { negative = s .0 i; whole = b .0 i; decimals = d .0 i; tail = t i }
 
@@ -143,13 +119,12 @@ module _ (bs : List ℕ) (unit : Measure) (b : Bool) (m u d : ℕ) (short : leng
   unread Range x = (b, x .0, (means (x .0) (x .1 .0), x .1 .1))
 
 -- from that to the answer
-pub answered : (bs : List ℕ) (unit : Measure) (sign : Bool) (y : ℤ) (r : Result ℤ NumberFault) → Means bs unit y → ByOk r (λ z. (z ≡ y) × InRange sign z) (λ e. (e ≡ Range) × (InRange sign y → ⊥)) → Answers bs unit sign r
+pub answered : (bs : List ℕ) (unit : Measure) (sign : Bool) (y : ℤ) (r : Result ℤ NumberFault) → Means bs unit y → Fitted sign y r → Answers bs unit sign r
 answered bs unit sign y (Ok z) m h = (subst (Means bs unit) (sym (h .0)) m, h .1)
 answered bs unit sign y (Err e) m h = subst (λ x. Answers bs unit sign (Err x)) (sym (h .0)) (y, (m, h .1))
 
-pub answered-unsigned : (bs : List ℕ) (unit : Measure) (y : ℤ) (r : Result ℕ NumberFault) → Means bs unit y → ByOk r (λ n. (pos n ≡ y) × InRange false (pos n)) (λ e. (e ≡ Range) × (InRange false y → ⊥)) → Answers bs unit false (asSigned r)
-answered-unsigned bs unit y (Ok n) m h = answered bs unit false y (Ok (pos n)) m h
-answered-unsigned bs unit y (Err e) m h = answered bs unit false y (Err e) m h
+pub fits-below : (b : Bool) (n : ℕ) (z : ℤ) → b ≡ true → n ≤ 2147483648 → z ≡ negℤ (pos n) → (z ≡ signedAs b n) × InRange true z
+fits-below b n z e h q = (q ∙ ap (λ x. signedAs x n) (sym e), (omega (arith, ints), omega (arith, ints)))
 
 too-many : (sign b : Bool) (n : ℕ) → 2147483648 < n → InRange sign (signedAs b n) → ⊥
 too-many true true n h r = omega (arith, ints)

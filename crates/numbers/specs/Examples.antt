@@ -1,11 +1,9 @@
 -- Words in euro, as limits, and what they are read as.
 use mathlib.Core.Bool.{true, false}
 use lib.Chars.{codes}
-use lib.IntN.{ℤ, pos, negsuc}
-use Rattle.std.specs.declared.result.Result.{Result}
+use lib.IntN.{pos}
 use Rattle.std.specs.declared.result.Result.the-variants.{Ok, Err}
 use Rattle.numbers.specs.declared.Unit.the-variants.{Euro}
-use Rattle.numbers.specs.declared.NumberFault.{NumberFault}
 use Rattle.numbers.specs.declared.NumberFault.the-variants.{Form, Fraction, Range}
 use Rattle.numbers.specs.Reading.{Answers}
 

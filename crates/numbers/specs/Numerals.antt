@@ -1,7 +1,7 @@
 -- How a number is written, and how many units it is.
 use mathlib.Core.Path.{_≡_}
 use mathlib.Core.List.{List, [], _∷_, _++_}
-use mathlib.Core.Bool.{Bool, true, false}
+use mathlib.Core.Bool.{Bool, true, false, cond}
 use Prim.Native.Nat.{ℕ, _+_, _-_, _*_, _^_, _≤_, _<_}
 use lib.Chars.{codes}
 use lib.ListN.{length}
@@ -90,24 +90,20 @@ mantissa w = numberOn 0 (w .whole ++ w .decimals)
 abbrev pub places : Numeral → ℕ
 places w = length (w .decimals)
 
+-- whether an exponent with that sign lowers the number
+abbrev pub lowers : Mark → Bool
+lowers none = false
+lowers plus = false
+lowers minus = true
+
 -- the exponent is the difference of rise and fall, one of which is 0
-abbrev pub riseBy : Mark → ℕ → ℕ
-riseBy none n = n
-riseBy plus n = n
-riseBy minus n = 0
-
-abbrev pub fallBy : Mark → ℕ → ℕ
-fallBy none n = 0
-fallBy plus n = 0
-fallBy minus n = n
-
 abbrev pub rise : Power → ℕ
 rise bare = 0
-rise (power letter mark ds) = riseBy mark (numberOn 0 ds)
+rise (power letter mark ds) = cond (lowers mark) 0 (numberOn 0 ds)
 
 abbrev pub fall : Power → ℕ
 fall bare = 0
-fall (power letter mark ds) = fallBy mark (numberOn 0 ds)
+fall (power letter mark ds) = cond (lowers mark) (numberOn 0 ds) 0
 
 -- apart from its sign w is n units, of which 10 ^ scale make one:
 -- n is mantissa * 10 ^ (rise - fall - places) * 10 ^ scale

@@ -8,10 +8,10 @@ ghost use Rattle.std.specs.Vec.{made};
 ghost use Rattle.std.specs.Of.String.{string-bytes};
 ghost use Rattle.std.specs.declared.result.Result.the-variants.{Ok};
 ghost use Rattle.numbers.specs.Numerals.{minusText, signedAs};
-ghost use Rattle.numbers.specs.Reading.{scaleOf, faultNumber, Means, InRange, Answers, asSigned, OnlySigned, OnlyUnsigned};
+ghost use Rattle.numbers.specs.Reading.{scaleOf, faultNumber, Means, Answers, asSigned, OnlySigned, OnlyUnsigned};
 ghost use Rattle.numbers.specs.Printing.{isBelow, shown, shownSize};
 ghost use Rattle.numbers.specs.Examples.{Examples};
-ghost use Rattle.numbers.specs.Scans.{Unread};
+ghost use Rattle.numbers.specs.Scans.{Unread, Fitted};
 use std::alloc::AllocError;
 use std::alloc::Global;
 
@@ -22,10 +22,11 @@ mod show;
 // The most bytes of a number word.
 const LONGEST: usize = 16;
 
-// The greatest count, and the least one apart from its sign.
+// The greatest count.
 const GREATEST: u64 = 2147483647;
 
-const LEAST: u64 = 2147483648;
+// The most units that a count below nought has.
+const MOST: u64 = 2147483648;
 
 // What a count counts: a thing, a tenth of a MW or a cent.
 #[derive(Clone, Copy)]
@@ -75,6 +76,7 @@ struct Amount {
     size: u64,
 }
 
+// How much a word writes in a unit; what no count can hold may be refused already here.
 fn read_amount(word: &[u8], unit: Unit) -> Result<Amount, NumberFault>
     ensures { λ r. ⌜ ByOk r (λ a. Means (now (word .entry)) unit (signedAs (a .below) (a .size))) (λ e. Unread (now (word .entry)) unit e) ⌝ }
 {
@@ -91,14 +93,15 @@ fn read_amount(word: &[u8], unit: Unit) -> Result<Amount, NumberFault>
     })
 }
 
+// The count, where it has 32 signed bits.
 fn with_sign(a: Amount) -> Result<i32, NumberFault>
-    ensures { λ r. ⌜ ByOk r (λ z. (z ≡ signedAs (a .below) (a .size)) × InRange true z) (λ e. (e ≡ NumberFault.Range) × (InRange true (signedAs (a .below) (a .size)) → ⊥)) ⌝ }
+    ensures { λ r. ⌜ Fitted true (signedAs (a .below) (a .size)) r ⌝ }
 {
     if a.below {
-        if a.size > LEAST {
+        if a.size > MOST {
             return Err(NumberFault::Range);
         }
-        return Ok((0 - a.size as i64) as i32);
+        return Ok(-(a.size as i64) as i32);
     }
     if a.size > GREATEST {
         return Err(NumberFault::Range);
@@ -106,8 +109,9 @@ fn with_sign(a: Amount) -> Result<i32, NumberFault>
     Ok(a.size as i32)
 }
 
+// The count, where it is not below nought and has 31 bits.
 fn without_sign(a: Amount) -> Result<u32, NumberFault>
-    ensures { λ r. ⌜ ByOk r (λ n. (pos n ≡ signedAs (a .below) (a .size)) × InRange false (pos n)) (λ e. (e ≡ NumberFault.Range) × (InRange false (signedAs (a .below) (a .size)) → ⊥)) ⌝ }
+    ensures { λ r. ⌜ Fitted false (signedAs (a .below) (a .size)) (asSigned r) ⌝ }
 {
     if a.size > GREATEST || (a.below && a.size > 0) {
         return Err(NumberFault::Range);
@@ -145,6 +149,7 @@ pub fn show_signed(heap: Global, n: i32, unit: Unit) -> Result<String, AllocErro
     show::show_size(heap, sign_of(n), n.unsigned_abs(), unit)
 }
 
+// The same of a count without a sign.
 pub fn show_unsigned(heap: Global, n: u32, unit: Unit) -> Result<String, AllocError>
     ensures text { λ r. ⌜ made r (λ t. string-bytes t ≡ shownSize unit n) ⌝ }
     ensures back { λ r. ⌜ (n ≤ 2147483647 → made r (λ t. Answers (string-bytes t) unit false (Ok (pos n)))) ⌝ }
@@ -162,51 +167,60 @@ mod tests {
     use super::*;
     use std::test::*;
 
-    fn limit(word: &[u8], n: i32) -> Result<(), Fail> {
-        check_eq(read_signed(word, Unit::Euro), Ok(n))
-    }
+    const FORM: NumberFault = NumberFault::Form;
 
-    fn no_limit(word: &[u8], fault: NumberFault) -> Result<(), Fail> {
-        check_eq(read_signed(word, Unit::Euro), Err(fault))
+    const PART: NumberFault = NumberFault::Fraction;
+
+    const SIZE: NumberFault = NumberFault::Range;
+
+    // The number table of the scripts' document: a word as a limit, as a quantity and as a plain number.
+    const TABLE: [(
+        &str,
+        Result<i32, NumberFault>,
+        Result<u32, NumberFault>,
+        Result<u32, NumberFault>,
+    ); 17] = [
+        ("1E-2", Ok(1), Err(PART), Err(PART)),
+        ("12E2", Ok(120000), Ok(12000), Ok(1200)),
+        ("-0", Ok(0), Ok(0), Ok(0)),
+        ("-0.05", Ok(-5), Err(PART), Err(PART)),
+        ("1e-3", Err(PART), Err(PART), Err(PART)),
+        ("30E-1", Ok(300), Ok(30), Ok(3)),
+        ("-1", Ok(-100), Err(SIZE), Err(SIZE)),
+        ("1.", Err(FORM), Err(FORM), Err(FORM)),
+        (".5", Err(FORM), Err(FORM), Err(FORM)),
+        ("+1", Err(FORM), Err(FORM), Err(FORM)),
+        ("", Err(FORM), Err(FORM), Err(FORM)),
+        ("00000000000000000", Err(FORM), Err(FORM), Err(FORM)),
+        ("0e999999999", Ok(0), Ok(0), Ok(0)),
+        ("1e999999999", Err(SIZE), Err(SIZE), Err(SIZE)),
+        ("1e-999999999", Err(PART), Err(PART), Err(PART)),
+        ("21474836.47", Ok(2147483647), Err(PART), Err(PART)),
+        ("-21474836.48", Ok(-2147483648), Err(PART), Err(PART)),
+    ];
+
+    #[test]
+    fn number_table() -> Result<(), Fail> {
+        for (word, limit, quantity, plain) in TABLE {
+            check_eq(read_signed(word.as_bytes(), Unit::Euro), limit).note(word)?;
+            check_eq(read_unsigned(word.as_bytes(), Unit::Megawatt), quantity).note(word)?;
+            check_eq(read_unsigned(word.as_bytes(), Unit::Count), plain).note(word)?;
+        }
+        Ok(())
     }
 
     #[test]
-    fn numbers(rt: LibcRuntime) -> Result<(), Fail> {
-        limit(b"1E-2", 1)?;
-        limit(b"12E2", 120000)?;
-        limit(b"-0", 0)?;
-        limit(b"0e999999999", 0)?;
-        limit(b"21474836.47", 2147483647)?;
-        limit(b"-21474836.48", -2147483648)?;
-        limit(b"000000000.1e+000", 10)?;
-        no_limit(b"", NumberFault::Form)?;
-        no_limit(b"1.", NumberFault::Form)?;
-        no_limit(b".1", NumberFault::Form)?;
-        no_limit(b"+1", NumberFault::Form)?;
-        no_limit(b"1e", NumberFault::Form)?;
-        no_limit(b"00000000000000000", NumberFault::Form)?;
-        no_limit(b"1e-3", NumberFault::Fraction)?;
-        no_limit(b"1e-999999999", NumberFault::Fraction)?;
-        no_limit(b"1e999999999", NumberFault::Range)?;
-        no_limit(b"21474836.48", NumberFault::Range)?;
-        no_limit(b"-21474836.49", NumberFault::Range)?;
-        check_eq(read_unsigned(b"-0", Unit::Megawatt), Ok(0))?;
-        check_eq(read_unsigned(b"2e1", Unit::Megawatt), Ok(200))?;
-        check_eq(read_unsigned(b"2147483647", Unit::Count), Ok(2147483647))?;
-        check_eq(
-            read_unsigned(b"2147483648", Unit::Count),
-            Err(NumberFault::Range),
-        )?;
-        check_eq(read_unsigned(b"-1", Unit::Count), Err(NumberFault::Range))?;
-        check_eq(
-            read_unsigned(b"0.5", Unit::Count),
-            Err(NumberFault::Fraction),
-        )?;
-        check_eq(NumberFault::Form.number(), 18)?;
-        let heap = rt.alloc();
-        check(show_signed(heap, -5, Unit::Euro)?.as_bytes() == b"-0.05")?;
-        check(show_signed(heap, 5000, Unit::Euro)?.as_bytes() == b"50.00")?;
-        check(show_unsigned(heap, 200, Unit::Megawatt)?.as_bytes() == b"20.0")?;
-        check(show_unsigned(heap, 7, Unit::Count)?.as_bytes() == b"7")
+    fn printed(rt: LibcRuntime) -> Result<(), Fail> {
+        for (n, text) in [
+            (-5, "-0.05"),
+            (5000, "50.00"),
+            (-2147483648, "-21474836.48"),
+        ] {
+            check(show_signed(rt.alloc(), n, Unit::Euro)?.as_bytes() == text.as_bytes())?;
+        }
+        for (n, text) in [(0, "0.0"), (200, "20.0"), (4294967295, "429496729.5")] {
+            check(show_unsigned(rt.alloc(), n, Unit::Megawatt)?.as_bytes() == text.as_bytes())?;
+        }
+        check_eq(NumberFault::Range.number(), 20)
     }
 }

@@ -4,11 +4,9 @@ ghost use Prim.Native.Nat.{ℕ, _*_, _^_, _<_};
 ghost use Rattle.std.specs.Options.{Cases as BySome};
 ghost use Rattle.std.specs.Results.{Cases as ByOk};
 ghost use Rattle.numbers.specs.Scans.{Scaled, Unscaled};
+use crate::MOST;
 use crate::NumberFault;
 use crate::scan::Parts;
-
-// The most units that any count has, apart from its sign.
-const MOST: u64 = 2147483648;
 
 // `m` times a power of ten, where that is at most `MOST`.
 fn raised(m: u64, by: u64) -> Option<u64>

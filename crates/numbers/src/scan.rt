@@ -1,11 +1,11 @@
 // The scan of a number word: its sign, its digits and its exponent.
 ghost use mathlib.Core.Path.{_≡_};
 ghost use mathlib.Core.Bool.{true, false};
-ghost use Prim.Native.Nat.{ℕ, _+_, _*_, _^_, _<_, _≤_};
+ghost use Prim.Native.Nat.{_+_, _*_, _^_, _<_, _≤_};
 ghost use lib.ListN.{length, getD, take};
 ghost use Rattle.std.specs.Options.{Cases as BySome};
 ghost use Rattle.numbers.specs.Numerals.{Digit, AllDigits, SomeDigits, numberOn};
-ghost use Rattle.numbers.specs.Scans.{NoDigit, Splits, Pointed, LonePoint, SizeIs, NoSize, PowerIs, NoPower, BodyIs, NoBody, NumeralIs, NoNumeral};
+ghost use Rattle.numbers.specs.Scans.{NoDigit, Splits, Pointed, LonePoint, SignedBy, MarkedBy, PowerIs, NoPower, NumeralIs, NoNumeral};
 
 // A power of ten: `up` less `down`.
 #[derive(Clone, Copy)]
@@ -65,24 +65,25 @@ fn read_digits(s: &[u8]) -> Option<u64>
     Some(read_on(0, s))
 }
 
-// An exponent without its letter.
-fn read_size(s: &[u8]) -> Option<Shift>
-    requires { ⌜ length (now s) ≤ 16 ⌝ }
-    ensures { λ r. ⌜ BySome r (NoSize (now (s .entry))) (λ x. SizeIs (now (s .entry)) (x .up) (x .down)) ⌝ }
+// Whether a minus stands at the front, and what follows it.
+fn split_minus(s: &[u8]) -> (bool, &[u8])
+    ensures { λ r. ⌜ SignedBy (now (s .entry)) (r .0) (now (r .1)) ⌝ }
 {
-    if s.is_empty() {
-        return None;
+    match s {
+        [b'-', rest @ ..] => (true, rest),
+        _ => (false, s),
     }
-    if s[0] == b'-' {
-        let down = read_digits(&s[1..])?;
-        return Some(Shift { up: 0, down });
+}
+
+// Whether an exponent has a minus, and what follows its sign.
+fn split_mark(s: &[u8]) -> (bool, &[u8])
+    ensures { λ r. ⌜ MarkedBy (now (s .entry)) (r .0) (now (r .1)) ⌝ }
+{
+    match s {
+        [b'-', rest @ ..] => (true, rest),
+        [b'+', rest @ ..] => (false, rest),
+        _ => (false, s),
     }
-    let up = if s[0] == b'+' {
-        read_digits(&s[1..])?
-    } else {
-        read_digits(s)?
-    };
-    Some(Shift { up, down: 0 })
 }
 
 // An exponent, or nothing.
@@ -90,13 +91,19 @@ fn read_power(s: &[u8]) -> Option<Shift>
     requires { ⌜ length (now s) ≤ 16 ⌝ }
     ensures { λ r. ⌜ BySome r (NoPower (now (s .entry))) (λ x. PowerIs (now (s .entry)) (x .up) (x .down)) ⌝ }
 {
-    if s.is_empty() {
-        return Some(Shift { up: 0, down: 0 });
+    match s {
+        [] => Some(Shift { up: 0, down: 0 }),
+        [b'e' | b'E', size @ ..] => {
+            let (falls, digits) = split_mark(size);
+            let n = read_digits(digits)?;
+            if falls {
+                Some(Shift { up: 0, down: n })
+            } else {
+                Some(Shift { up: n, down: 0 })
+            }
+        }
+        _ => None,
     }
-    if s[0] != b'e' && s[0] != b'E' {
-        return None;
-    }
-    read_size(&s[1..])
 }
 
 // The digits after a point, which may be missing, and what follows them.
@@ -104,10 +111,10 @@ fn read_point(s: &[u8]) -> Option<(&[u8], &[u8])>
     requires { ⌜ NoDigit (now s) ⌝ }
     ensures { λ r. ⌜ BySome r (LonePoint (now (s .entry))) (λ p. Pointed (now (s .entry)) (p .0 .now) (p .1 .now)) ⌝ }
 {
-    if s.is_empty() || s[0] != b'.' {
+    let [b'.', after @ ..] = s else {
         return Some((&s[0..0], s));
-    }
-    let (ds, rest) = digits_then(&s[1..]);
+    };
+    let (ds, rest) = digits_then(after);
     if ds.is_empty() {
         None
     } else {
@@ -115,12 +122,13 @@ fn read_point(s: &[u8]) -> Option<(&[u8], &[u8])>
     }
 }
 
-// A number without its sign, which is `below`.
-fn read_body(s: &[u8], below: bool) -> Option<Parts>
+// What a word of at most 16 bytes writes.
+pub(crate) fn scan_word(s: &[u8]) -> Option<Parts>
     requires { ⌜ length (now s) ≤ 16 ⌝ }
-    ensures { λ r. ⌜ BySome r (NoBody (now (s .entry))) (λ p. BodyIs (now (s .entry)) (p .below) (p .mantissa) (p .shift .up) (p .shift .down) × (p .below ≡ below)) ⌝ }
+    ensures { λ r. ⌜ BySome r (NoNumeral (now (s .entry))) (λ p. NumeralIs (now (s .entry)) (p .below) (p .mantissa) (p .shift .up) (p .shift .down)) ⌝ }
 {
-    let (whole, rest) = digits_then(s);
+    let (below, body) = split_minus(s);
+    let (whole, rest) = digits_then(body);
     if whole.is_empty() {
         return None;
     }
@@ -133,19 +141,4 @@ fn read_body(s: &[u8], below: bool) -> Option<Parts>
         mantissa,
         shift: Shift { up: shift.up, down },
     })
-}
-
-// What a word of at most 16 bytes writes.
-pub(crate) fn scan_word(s: &[u8]) -> Option<Parts>
-    requires { ⌜ length (now s) ≤ 16 ⌝ }
-    ensures { λ r. ⌜ BySome r (NoNumeral (now (s .entry))) (λ p. NumeralIs (now (s .entry)) (p .below) (p .mantissa) (p .shift .up) (p .shift .down)) ⌝ }
-{
-    if s.is_empty() {
-        return None;
-    }
-    if s[0] == b'-' {
-        read_body(&s[1..], true)
-    } else {
-        read_body(s, false)
-    }
 }

@@ -1,3 +1,4 @@
+-- What `examples_hold` leaves to show.
 use Rattle.numbers.proofs.Examples.{examples}
 use Rattle.numbers.proofs.examples_hold.Needs as need
 

@@ -1,3 +1,4 @@
+-- What `read_signed` leaves to show.
 use mathlib.Core.Bool.{true}
 use Rattle.std.proofs.shelf.Results.{err-from-errBy}
 use Rattle.numbers.proofs.Once.{only-signed, answered, refused}

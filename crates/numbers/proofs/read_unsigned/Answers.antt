@@ -1,7 +1,9 @@
+-- What `read_unsigned` leaves to show.
 use mathlib.Core.Bool.{false}
 use Rattle.std.proofs.shelf.Results.{err-from-errBy}
 use Rattle.std.specs.declared.result.Result.the-variants.{Err}
-use Rattle.numbers.proofs.Once.{only-unsigned, answered-unsigned, refused}
+use Rattle.numbers.specs.Reading.{asSigned}
+use Rattle.numbers.proofs.Once.{only-unsigned, answered, refused}
 use Rattle.numbers.proofs.read_unsigned.Needs as need
 
 pub returns-in-Break-read-amount : need.returns-in-Break-read-amount
@@ -13,5 +15,5 @@ returns-in-Break-read-amount c =
 
 pub returns : need.returns
 returns c =
-    let h = answered-unsigned (c .args .word .now) (c .args .unit) _ (c .without-sign .result) (c .in-Continue-read-amount .ensures tt) (c .without-sign .ensures) in
-    record { answer = h; only = only-unsigned _ _ _ h }
+    let h = answered (c .args .word .now) (c .args .unit) false _ (asSigned (c .without-sign .result)) (c .in-Continue-read-amount .ensures tt) (c .without-sign .ensures) in
+    record { answer = h; only = only-unsigned (c .args .word .now) (c .args .unit) (c .without-sign .result) h }

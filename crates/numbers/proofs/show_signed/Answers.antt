@@ -1,3 +1,4 @@
+-- What `show_signed` leaves to show.
 use mathlib.Core.Path.{_≡_, sym, ap, subst, _∙_}
 use mathlib.Core.List.{_++_}
 use mathlib.Core.Bool.{true}

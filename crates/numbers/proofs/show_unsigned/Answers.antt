@@ -1,10 +1,9 @@
-use mathlib.Core.Path.{_≡_, refl}
+-- What `show_unsigned` leaves to show.
 use mathlib.Core.Bool.{false}
 use lib.IntN.{pos}
 use Rattle.std.specs.Of.String.{string-bytes}
 use Rattle.std.specs.declared.result.Result.the-variants.{Ok}
 use Rattle.numbers.specs.Reading.{Answers}
-use Rattle.numbers.specs.Printing.{shownSize}
 use Rattle.numbers.proofs.Printed.{held, back-unsigned}
 use Rattle.numbers.proofs.show_unsigned.Needs as need
 

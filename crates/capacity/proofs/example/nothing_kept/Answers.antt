@@ -1,3 +1,4 @@
+-- The figures of a pile that keeps nothing back.
 use native.Mathlib.Omega.{arith}
 use Rattle.capacity.proofs.Quotes.{connect-01, quoted}
 use Rattle.capacity.proofs.example.nothing_kept.Needs as need

@@ -1,3 +1,4 @@
+-- The figures of a pile that keeps 20 and 10 back.
 use native.Mathlib.Omega.{arith}
 use Rattle.capacity.proofs.Quotes.{connect-01, quoted}
 use Rattle.capacity.proofs.example.some_kept.Needs as need

@@ -1,7 +1,7 @@
 // Reading which areas are joined, and joining two.
 ghost use mathlib.Core.Path.{_≡_};
 ghost use mathlib.Core.Bool.{false, _||_};
-ghost use Prim.Native.Nat.{_≤_, _<_};
+ghost use Prim.Native.Nat.{_+_, _≤_, _<_};
 ghost use Rattle.capacity.specs.Directions.{«is-way»};
 ghost use Rattle.capacity.specs.Network.{connectors};
 ghost use Rattle.capacity.specs.Shapes.{«joins-of»};
@@ -27,14 +27,16 @@ impl Links {
     }
 
     pub(crate) fn count(&self) -> u32
-        ensures { λ r. ⌜ r ≡ connectors («joins-of» (now (self .entry))) ⌝ }
+        ensures value { λ r. ⌜ r ≡ connectors («joins-of» (now (self .entry))) ⌝ }
+        ensures few { λ r. ⌜ r ≤ 32 ⌝ }
     {
         self.count
     }
 
     pub(crate) fn join(&mut self, from: u32, to: u32)
         requires { ⌜ from ≤ 15 ⌝ ∗ ⌜ to ≤ 15 ⌝ ∗ ⌜ (from ≡ to → ⊥) ⌝ ∗ ⌜ «joins-of» (now self) from to ≡ false ⌝ ∗ ⌜ connectors («joins-of» (now self)) < 32 ⌝ }
-        ensures { λ _. ⌜ «joins-of» (now (self .exit)) ≡ (λ a b. («is-way» from to a b || «is-way» to from a b) || «joins-of» (now (self .entry)) a b) ⌝ }
+        ensures after { λ _. ⌜ «joins-of» (now (self .exit)) ≡ (λ a b. («is-way» from to a b || «is-way» to from a b) || «joins-of» (now (self .entry)) a b) ⌝ }
+        ensures count { λ _. ⌜ connectors («joins-of» (now (self .exit))) ≡ connectors («joins-of» (now (self .entry))) + 1 ⌝ }
     {
         let low = from.min(to);
         let high = from.max(to);

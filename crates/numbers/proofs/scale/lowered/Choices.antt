@@ -1,3 +1,4 @@
+-- What the loop of `lowered` keeps, and what falls.
 use mathlib.Core.Path.{_≡_}
 use Prim.Native.Nat.{_*_, _^_, _-_, _<_, _≤_}
 use Rattle.numbers.proofs.scale.lowered.Given as given

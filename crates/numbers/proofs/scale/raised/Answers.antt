@@ -1,3 +1,4 @@
+-- What `raised` leaves to show.
 use native.Mathlib.Omega.{arith}
 use Rattle.numbers.proofs.Laws.{raise-more, raise-past}
 use Rattle.numbers.proofs.scale.raised.Needs as need

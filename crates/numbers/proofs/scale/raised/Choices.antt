@@ -1,3 +1,4 @@
+-- What the loop of `raised` keeps, and what falls.
 use mathlib.Core.Path.{_≡_}
 use Prim.Native.Nat.{_*_, _^_, _<_}
 use Rattle.numbers.proofs.scale.raised.Given as given

@@ -1,3 +1,4 @@
+-- What `scaled` leaves to show.
 use mathlib.Core.Path.{refl}
 use native.Mathlib.Omega.{arith}
 use Rattle.numbers.proofs.Scaling.{ok-or-cases, raise-scaled, lower-scaled, lower-not}

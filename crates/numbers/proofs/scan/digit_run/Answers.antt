@@ -1,3 +1,4 @@
+-- What `digit_run` leaves to show.
 use native.Mathlib.Omega.{arith}
 use Rattle.numbers.proofs.Laws.{digits-more}
 use Rattle.numbers.proofs.scan.digit_run.Needs as need

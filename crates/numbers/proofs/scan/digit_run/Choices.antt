@@ -1,3 +1,4 @@
+-- What the loop of `digit_run` keeps, and what falls.
 use Prim.Native.Nat.{_-_, _≤_}
 use lib.ListN.{length, take}
 use Rattle.numbers.specs.Numerals.{AllDigits}

@@ -1,8 +1,4 @@
-use mathlib.Core.Path.{sym, subst, _∙_}
-use native.Mathlib.Omega.{arith}
-use lib.ListN.{take-append-drop}
-use Rattle.numbers.specs.Numerals.{AllDigits}
-use Rattle.numbers.specs.Scans.{NoDigit, Splits}
+-- What `digits_then` leaves to show.
 use Rattle.numbers.proofs.Scanned.{splits-at}
 use Rattle.numbers.proofs.scan.digits_then.Needs as need
 

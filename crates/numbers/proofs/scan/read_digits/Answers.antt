@@ -1,8 +1,7 @@
-use mathlib.Core.Path.{_≡_, sym, subst, _∙_}
-use Prim.Native.Nat.{_≤_, _<_}
+-- What `read_digits` leaves to show.
+use mathlib.Core.Path.{sym, subst, _∙_}
 use native.Mathlib.Omega.{arith}
-use lib.ListN.{length, take}
-use borrow.Author.Tests.{true-eqb, false-eqb, eqb-true, eqb-false}
+use borrow.Author.Tests.{false-eqb, eqb-true}
 use Rattle.std.proofs.shelf.Lists.{take-all}
 use Rattle.numbers.specs.Numerals.{AllDigits}
 use Rattle.numbers.proofs.Scanned.{all-at, sixteen}

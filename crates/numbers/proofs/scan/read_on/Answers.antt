@@ -1,10 +1,8 @@
-use mathlib.Core.Path.{_≡_}
-use Prim.Native.Nat.{_+_, _*_, _-_, _≤_, _<_, _^_}
-use lib.ListN.{length, getD, drop}
+-- What `read_on` leaves to show.
+use Prim.Native.Nat.{_≤_, _<_}
+use lib.ListN.{length}
 use native.Mathlib.Omega.{arith}
-use borrow.Author.Needs.{needs}
-use Rattle.numbers.specs.Numerals.{Digit, numberOn}
-use Rattle.numbers.proofs.Laws.{Left, left-more, left-all, room-now}
+use Rattle.numbers.proofs.Laws.{left-more, left-all, room-now}
 use Rattle.numbers.proofs.scan.read_on.Needs as need
 
 pub mul-n : need.mul-n

@@ -1,3 +1,4 @@
+-- What the loop of `read_on` keeps, and what falls.
 use lib.ListN.{drop}
 use Rattle.numbers.specs.Numerals.{numberOn}
 use Rattle.numbers.proofs.Laws.{Left}

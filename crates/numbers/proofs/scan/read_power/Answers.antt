@@ -1,22 +1,32 @@
-use mathlib.Core.Path.{_≡_, sym, subst, ap, _∙_}
-use mathlib.Core.Logic.{_⊎_, inl, inr}
-use Prim.Native.Nat.{_≤_, _<_}
+-- What `read_power` leaves to show.
+use mathlib.Core.Path.{_≡_, sym, subst}
+use mathlib.Core.Logic.{_⊎_}
+use Prim.Native.Nat.{_<_}
 use native.Mathlib.Omega.{arith}
 use lib.ListN.{length, getD}
-use borrow.Author.Tests.{false-eqb, true-eqb}
+use borrow.Author.Needs.{needs}
+use borrow.Author.Tests.{ltb-true, ltb-false}
 use Rattle.std.proofs.shelf.Lists.{nil-from-length}
-use Rattle.std.proofs.shelf.Parts.{first-rest}
-use Rattle.numbers.specs.Scans.{NoPower, PowerIs}
-use Rattle.numbers.proofs.Scanned.{cases-map, begins, power-none, power-size, no-power}
+use Rattle.numbers.specs.Scans.{PowerIs}
+use Rattle.numbers.proofs.Scanned.{at-none, power-none, power-at, no-power}
 use Rattle.numbers.proofs.scan.read_power.Needs as need
-use Rattle.numbers.proofs.scan.read_power.Needs.{else-s-ne101·by·then-s-ne101·else-s-ne69, else-s-ne101·by·else-s-ne101}
 
-pub returns-then-is-empty : need.returns-then-is-empty
-returns-then-is-empty c = subst (λ s. PowerIs s 0 0) (sym (nil-from-length _ (true-eqb _ _ (c .if-is-empty .ensures tt)))) power-none
+pub returns-in-empty : need.returns-in-empty
+returns-in-empty c = subst (λ s. PowerIs s 0 0) (sym (nil-from-length _ (omega (arith, ltb-true, ltb-false)))) power-none
 
-pub returns : need.returns
-returns c =
-    let h : 0 < length (c .args .s .now) = omega (arith, false-eqb _ _ (c .if-is-empty .ensures tt)) in
-    let l : (getD (c .args .s .now) 0 0 ≡ 101) ⊎ (getD (c .args .s .now) 0 0 ≡ 69) = elim (c .else-s-ne101 .came) [ else-s-ne101·by·then-s-ne101·else-s-ne69 w ↦ inr (w .if-s-ne69 .left) | else-s-ne101·by·else-s-ne101 w ↦ inl (w .if-s-ne101 .left) ] in
-    let e = first-rest (c .args .s .now) 0 h in
-    cases-map _ _ _ _ _ (λ f. subst NoPower (sym e) (no-power _ _ f)) (λ x g. subst (λ s. PowerIs s (x .up) (x .down)) (sym e) (power-size _ _ _ _ l g)) (c .read-size .ensures)
+pub returns-in-Break-n : need.returns-in-Break-n
+returns-in-Break-n c =
+    let h : 0 < length (c .args .s .now) = omega (arith, ltb-true, ltb-false) in
+    at-none _ _ _ (c .from-residual .ensures) (no-power _ h _ _ (c .split-mark-falls .ensures) (c .in-Break-n .ensures tt))
+
+pub returns-then-falls : need.returns-then-falls
+returns-then-falls c =
+    let h : 0 < length (c .args .s .now) = omega (arith, ltb-true, ltb-false) in
+    let b : (getD (c .args .s .now) 0 0 ≡ 101) ⊎ (getD (c .args .s .now) 0 0 ≡ 69) = search needs in
+    power-at _ h _ _ (c .split-mark-falls .ensures) b _ _ _ (c .in-Continue-n .ensures tt) (simp (c .if-falls .taken)) (simp (c .if-falls .taken))
+
+pub returns-else-falls : need.returns-else-falls
+returns-else-falls c =
+    let h : 0 < length (c .args .s .now) = omega (arith, ltb-true, ltb-false) in
+    let b : (getD (c .args .s .now) 0 0 ≡ 101) ⊎ (getD (c .args .s .now) 0 0 ≡ 69) = search needs in
+    power-at _ h _ _ (c .split-mark-falls .ensures) b _ _ _ (c .in-Continue-n .ensures tt) (simp (c .if-falls .left)) (simp (c .if-falls .left))

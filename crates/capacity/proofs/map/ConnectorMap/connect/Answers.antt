@@ -1,12 +1,12 @@
+-- A connector that no test refuses.
 use borrow.Author.Needs.{needs}
-use mathlib.Core.Path.{_≡_, ap, sym, _∙_}
-use mathlib.Core.Bool.{Bool, false, cond, _||_}
-use Prim.Native.Nat.{ℕ, _≤_, _<_}
+use mathlib.Core.Path.{_≡_, ap, _∙_}
+use mathlib.Core.Bool.{Bool, false, cond}
+use Prim.Native.Nat.{ℕ, _+_, _<_}
 use native.Mathlib.Omega.{arith}
-use Rattle.std.proofs.shelf.Tests.{le-ltb, lt-leb, ne-eqb, or-from}
 use Rattle.capacity.specs.Directions.{is-way}
 use Rattle.capacity.specs.Network.{Network, connectors, connect-tests, connected}
-use Rattle.capacity.specs.Shapes.{network-of, joins-of, kept-of}
+use Rattle.capacity.specs.Shapes.{network-of, kept-of}
 use Rattle.capacity.proofs.Passes.{passes-answered, passes-resulting}
 use Rattle.capacity.proofs.Links.{connect-passes}
 use Rattle.capacity.proofs.map.ConnectorMap.connect.Needs as need
@@ -27,7 +27,8 @@ returns c =
     record {
       answer = passes-answered ts p;
       after =
-          ap (λ (j : ℕ → ℕ → Bool). let n : Network = record { joins = j; kept = kept-of (c .keep-2 .last .self) } in n) (c .join .ensures)
+          ap (λ (j : ℕ → ℕ → Bool). let n : Network = record { joins = j; kept = kept-of (c .keep-2 .last .self) } in n) (c .join .ensures .after)
           ∙ ap (λ (k : ℕ → ℕ → ℕ). let n : Network = record { joins = connected m x y v w .joins; kept = k } in n) kept
           ∙ passes-resulting ts m (connected m x y v w) p;
+      count = c .join .ensures .count ∙ passes-resulting ts (connectors (m .joins)) (connectors (m .joins) + 1) p;
     }

@@ -1,3 +1,4 @@
+-- The ATC of a layer, from the ATC and the held figure below.
 use native.Mathlib.Omega.{arith}
 use Rattle.std.proofs.shelf.Signed.{ints}
 use Rattle.capacity.specs.Meaning.{reserved}

@@ -1,3 +1,4 @@
+-- The held figure of a layer does not wrap.
 use native.Mathlib.Omega.{arith}
 use Rattle.capacity.proofs.Layers.{asked-some}
 use Rattle.capacity.proofs.reserve.ReserveRegister.held.Needs as need

@@ -1,3 +1,4 @@
+-- A notice to a layer is one to the register below.
 use mathlib.Core.Path.{ap, _∙_}
 use Rattle.capacity.specs.Answers.{notice-tests}
 use Rattle.capacity.specs.Meaning.{Capacity, reserved, noticed}

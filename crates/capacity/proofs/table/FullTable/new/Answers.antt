@@ -1,3 +1,4 @@
+-- A full table made for a map has all figures at nought.
 use mathlib.Core.Path.{ap, _∙_}
 use Prim.Native.Nat.{ℕ}
 use native.Mathlib.Omega.{arith}

@@ -1,3 +1,4 @@
+-- What is written to the table is within its bounds, and raises the net use by the quantity.
 use borrow.Author.Needs.{needs}
 use mathlib.Core.Path.{_≡_}
 use native.Mathlib.Omega.{arith}

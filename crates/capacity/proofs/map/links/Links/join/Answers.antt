@@ -1,10 +1,10 @@
+-- One more connector: the table has the pair, and the count is one more.
 use borrow.Author.Needs.{needs}
 use mathlib.Core.Path.{_≡_, ap, sym, _∙_, fun-ext}
-use mathlib.Core.Bool.{true, false, _||_}
-use Prim.Native.Nat.{ℕ, _+_, _*_, _≤_, min, max}
+use mathlib.Core.Bool.{false}
+use Prim.Native.Nat.{_+_}
 use native.Mathlib.Omega.{arith}
-use lib.ListN.{length, set}
-use Rattle.capacity.specs.Directions.{is-way}
+use lib.ListN.{length}
 use Rattle.capacity.specs.Network.{connectors}
 use Rattle.capacity.specs.Tables.{linked}
 use Rattle.capacity.proofs.Links.{linked-set, count-set}
@@ -17,11 +17,14 @@ ghost-self c =
     let free : linked js (c .args .from) (c .args .to) ≡ false = search needs in
     let was : c .args .self .now .count ≡ connectors (linked js) = c .args .self .now .counted in
     let more = count-set js (c .args .from) (c .args .to) (omega arith) (omega arith) (search needs) len free in
-    (rw (c .min-low .ensures, c .max-high .ensures) (ap (λ n. n + 1) was ∙ sym more), tt)
+    (rw (c .min-low .ensures, c .max-high .ensures) (ap (λ n. n + 1) was ∙ sym more), (omega arith, tt))
 
 pub returns : need.returns
 returns c =
     let js = c .args .self .now .joined in
     let len : length js ≡ 256 = search needs in
-    rw (c .min-low .ensures, c .max-high .ensures)
-    (fun-ext (λ a. fun-ext (λ b. linked-set js (c .args .from) (c .args .to) (omega arith) (omega arith) (search needs) len a b)))
+    let free : linked js (c .args .from) (c .args .to) ≡ false = search needs in
+    record {
+      after = rw (c .min-low .ensures, c .max-high .ensures) (fun-ext (λ a. fun-ext (λ b. linked-set js (c .args .from) (c .args .to) (omega arith) (omega arith) (search needs) len a b)));
+      count = rw (c .min-low .ensures, c .max-high .ensures) (count-set js (c .args .from) (c .args .to) (omega arith) (omega arith) (search needs) len free);
+    }

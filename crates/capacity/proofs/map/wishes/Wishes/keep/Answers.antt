@@ -1,3 +1,4 @@
+-- One figure set, the others as they were.
 use borrow.Author.Needs.{needs}
 use mathlib.Core.Path.{_≡_, fun-ext}
 use native.Mathlib.Omega.{arith}

@@ -1,3 +1,4 @@
+-- Nothing kept back.
 use mathlib.Core.Path.{fun-ext}
 use Prim.Native.Nat.{ℕ}
 use native.Mathlib.Omega.{arith}

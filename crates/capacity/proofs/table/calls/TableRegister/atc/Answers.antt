@@ -1,10 +1,11 @@
+-- The ATC of the table, by its formula.
 use borrow.Author.Needs.{needs}
-use mathlib.Core.Path.{_≡_, ap, _∙_}
+use mathlib.Core.Path.{_≡_}
 use mathlib.Core.Bool.{true}
 use Prim.Native.Nat.{_≤_}
 use native.Mathlib.Omega.{arith}
 use Rattle.std.proofs.shelf.Signed.{ints}
-use Rattle.capacity.specs.Tables.{linked, on, full}
+use Rattle.capacity.specs.Tables.{linked, full}
 use Rattle.capacity.proofs.Layers.{asked-known}
 use Rattle.capacity.proofs.Filled.{full-atc, on-known, on-back}
 use Rattle.capacity.proofs.table.calls.TableRegister.atc.Needs as need

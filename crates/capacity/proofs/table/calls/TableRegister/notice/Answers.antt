@@ -1,3 +1,4 @@
+-- A notice to the table that no test refuses.
 use borrow.Author.Needs.{needs}
 use mathlib.Core.Path.{_≡_, _∙_}
 use mathlib.Core.Bool.{true}
