@@ -38,10 +38,10 @@ none-of false false false x y z e = (refl, refl, refl)
 abbrev terms : Kind → Side → ℤ → ℕ → ℕ → ℕ → OrderTerms
 terms k s l q p d = record { kind = k; side = s; limit = l; quantity = q; peak = p; delta = d }
 
-by-kind : (n m c a : ℕ) (k : Kind) (s : Side) (l : ℤ) (q p d : ℕ) → beyond l ≡ false → 1 ≤ q → ill-sliced k (terms k s l q p d) ≡ false → Fit (entered n m c a (terms k s l q p d))
-by-kind n m c a Non s l q p d h some g = (lt-ltb 0 q (omega arith), (limits l h, refl))
-by-kind n m c a Ioc s l q p d h some g = (lt-ltb 0 q (omega arith), (limits l h, refl))
-by-kind n m c a Ice s l q p d h some g =
+by-kind : (n m c a : ℕ) (k : Kind) (s : Side) (l : ℤ) (q p d : ℕ) → beyond l ≡ false → 1 ≤ q → q ≤ 9999 → ill-sliced k (terms k s l q p d) ≡ false → Fit (entered n m c a (terms k s l q p d))
+by-kind n m c a Non s l q p d h some few g = (lt-ltb 0 q (omega arith), (limits l h, refl, few))
+by-kind n m c a Ioc s l q p d h some few g = (lt-ltb 0 q (omega arith), (limits l h, refl, few))
+by-kind n m c a Ice s l q p d h some few g =
     let t = terms Ice s l q p d in
     let u = or-parts (ltb p 50 || ltb q p) (ltb 500 d || beyond (last-limit t)) g in
     let v = or-parts (ltb p 50) (ltb q p) (u .0) in
@@ -57,10 +57,12 @@ by-kind n m c a Ice s l q p d h some g =
           enough = enough q p (omega arith);
           last = limits (last-limit t) (w .1);
         },
+        few,
       ),
     )
 
 pub accepted : (n m c a : ℕ) (t : OrderTerms) → refusal t ≡ None → Fit (entered n m c a t)
 accepted n m c a t e =
     let f = none-of (beyond (t .limit)) (ltb (t .quantity) 1 || ltb 9999 (t .quantity)) (ill-sliced (t .kind) t) 5 6 7 e in
-    by-kind n m c a (t .kind) (t .side) (t .limit) (t .quantity) (t .peak) (t .delta) (f .0) (ltb-false (t .quantity) 1 (or-parts (ltb (t .quantity) 1) (ltb 9999 (t .quantity)) (f .1) .0)) (f .2)
+    let g = or-parts (ltb (t .quantity) 1) (ltb 9999 (t .quantity)) (f .1) in
+    by-kind n m c a (t .kind) (t .side) (t .limit) (t .quantity) (t .peak) (t .delta) (f .0) (ltb-false (t .quantity) 1 (g .0)) (ltb-false 9999 (t .quantity) (g .1)) (f .2)

@@ -56,7 +56,7 @@ less-parted Ice q o h = record {
 lasts-struck : (b s q : ℕ) (o : Order) → Lasts o → Lasts (struck b s q o)
 lasts-struck b s q o h =
     elim (cases-bool (eqb (o .number) b || eqb (o .number) s)) [
-      | inl y ↦ subst Lasts (sym (cond-true _ _ _ y)) (h .0, less-parted (o .kind) q o (h .1))
+      | inl y ↦ subst Lasts (sym (cond-true _ _ _ y)) (h .0, less-parted (o .kind) q o (h .1), omega (arith, h .2))
       | inr n ↦ subst Lasts (sym (cond-false _ _ _ n)) h
     ]
 
@@ -116,7 +116,7 @@ next-fit o h =
     let n = next o (h .0) (h .1) in
     let some = ltb-true 0 (o .«open») (and-parts (not (shows o)) (ltb 0 (o .«open»)) (h .0) .1) in
     let p = n .peak in
-    (lt-ltb 0 (min (o .peak) (o .«open»)) (omega arith), (n .limit, n .parted))
+    (lt-ltb 0 (min (o .peak) (o .«open»)) (omega arith), (n .limit, n .parted, h .1 .2))
 
 -- what shows and lasts is an iceberg if its kind says so
 iced-kind : (k : Kind) (o : Order) → shows o ≡ true → Parted k o → (is-ice k && (shows o && (leb (o .shown) (o .peak) && leb (o .shown) (o .«open»)))) ≡ is-ice k

@@ -30,7 +30,7 @@ Parted Ice o = Sliced o
 
 -- in range now, and through all slices to come
 abbrev pub Lasts : Order → Type 0
-Lasts o = In-limits (o .limit) × Parted (o .kind) o
+Lasts o = In-limits (o .limit) × Parted (o .kind) o × (o .«open» ≤ 9999)
 
 -- an order as the book may hold it: it shows some, and lasts
 abbrev pub Fit : Order → Type 0

@@ -1,7 +1,7 @@
 -- Orders: how they are entered, and their slices and limits.
 use Prim.Native.Nat.{ℕ, _-_, min}
 use mathlib.Core.Bool.{Bool, true, false, _&&_, _||_, not}
-use lib.Dec.{ltb}
+use lib.Dec.{eqb, ltb}
 use lib.IntN.{ℤ, pos, negsuc, _+ℤ_, _-ℤ_}
 use lib.Signed.{ltZ}
 use Rattle.book.specs.declared.rows.Side.{Side}
@@ -15,6 +15,15 @@ abbrev pub is-ice : Kind → Bool
 is-ice Non = false
 is-ice Ioc = false
 is-ice Ice = true
+
+abbrev pub is-ioc : Kind → Bool
+is-ioc Non = false
+is-ioc Ioc = true
+is-ioc Ice = false
+
+-- whether an order rests once the round of the incoming order n is done: an incoming IOC does not
+abbrev pub rests : ℕ → Order → Bool
+rests n o = not (eqb (o .number) n && is-ioc (o .kind))
 
 -- what a kind shows at first of a quantity
 abbrev pub first-slice : Kind → ℕ → ℕ → ℕ

@@ -5,6 +5,7 @@ ghost use lib.ListN.{length};
 ghost use mathlib.Core.List.{[]};
 ghost use Rattle.std.specs.shelf.Lists.{«kept-by»};
 ghost use Rattle.book.specs.Orderly.{Fit, Orderly};
+ghost use Rattle.book.specs.Orders.{rests};
 ghost use Rattle.book.specs.Refusals.{told};
 ghost use Rattle.book.specs.Places.{orders, «append-refusal», appended, nth, without, place, Placed, numbered, «numbered-of», «of-contract», «not-of-contract»};
 ghost use Rattle.std.specs.declared.option.Option.the-variants.{None};
@@ -125,6 +126,22 @@ impl Book {
             let kept = self.rows[i];
             if i != at {
                 let _ = left.append(kept);
+            }
+        }
+        *self = left;
+    }
+
+    // Takes the order of this number out if it is IOC, which never rests.
+    pub fn drop_ioc(&mut self, incoming: u32)
+        ensures after { λ _. ⌜ orders (now (self .exit)) ≡ «kept-by» (rests incoming) (orders (now (self .entry))) ⌝ }
+        ensures orderly { λ _. ⌜ (Orderly (orders (now (self .entry))) → Orderly (orders (now (self .exit)))) ⌝ }
+    {
+        let n = self.len();
+        let mut left = Book::new();
+        for i in 0..n {
+            let row = self.rows[i];
+            if row.rests(incoming) {
+                let _ = left.append(row);
             }
         }
         *self = left;

@@ -2,7 +2,7 @@
 ghost use mathlib.Core.Path.{_≡_};
 ghost use mathlib.Core.Bool.{false, cond};
 ghost use Prim.Native.Nat.{_<_, _^_};
-ghost use Rattle.book.specs.Orders.{moved, beyond, lessened, «next-slice», shows};
+ghost use Rattle.book.specs.Orders.{moved, beyond, lessened, «next-slice», rests, shows};
 ghost use Rattle.book.specs.Trades.{renewable};
 ghost use Rattle.book.specs.Icebergs.{«is-iceberg», «row-if», «row-left», «is-showing»};
 ghost use Rattle.std.specs.declared.option.Option.the-variants.{Some, None};
@@ -38,6 +38,16 @@ impl Order {
         ensures { λ r. ⌜ r ≡ shows (now (self .entry)) ⌝ }
     {
         0 < self.shown
+    }
+
+    // Whether it rests once the round of this incoming order is done.
+    pub(crate) fn rests(&self, incoming: u32) -> bool
+        ensures { λ r. ⌜ r ≡ rests incoming (now (self .entry)) ⌝ }
+    {
+        match self.kind {
+            Kind::Ioc => self.number != incoming,
+            _ => true,
+        }
     }
 
     // Whether its slice is used up, some is open, and it can show more at a limit in range.

@@ -1,0 +1,4 @@
+-- Lemmas on ranked lists.
+pub mod Shifting
+pub mod Inserting
+pub mod Laws

@@ -1,0 +1,5 @@
+-- The definitions that the contracts cite.
+pub mod Faults
+pub mod State
+pub mod Calls
+pub mod Steps

@@ -1,0 +1,3 @@
+-- Lemmas.
+pub mod Dealing
+mod Written

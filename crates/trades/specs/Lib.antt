@@ -1,0 +1,2 @@
+-- What the contracts speak of.
+pub mod Deals
