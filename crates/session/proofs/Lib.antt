@@ -2,3 +2,6 @@
 pub mod Deciding
 pub mod Flags
 pub mod Carrying
+pub mod Once
+pub mod Falling
+pub mod Running

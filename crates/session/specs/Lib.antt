@@ -3,3 +3,4 @@ pub mod Faults
 pub mod State
 pub mod Calls
 pub mod Steps
+pub mod Rounds

@@ -5,6 +5,8 @@ use mathlib.Core.Path.{_≡_}
 use Prim.Native.Nat.{ℕ}
 use lib.Dec.{eqb, ltb}
 use lib.ListN.{length, drop}
+use Rattle.std.specs.declared.option.Option.{Option}
+use Rattle.std.specs.declared.option.Option.the-variants.{Some, None}
 use Rattle.std.specs.declared.result.Result.{Result}
 use Rattle.std.specs.declared.result.Result.the-variants.{Ok, Err}
 use Rattle.std.specs.shelf.Lists.{kept-by}
@@ -24,7 +26,7 @@ use Rattle.session.specs.declared.phases.Phase.the-variants.{Quiet, Under}
 use Rattle.session.specs.declared.steps.Step.{Step}
 use Rattle.session.specs.declared.steps.Step.the-variants.{Traded, Done}
 use Rattle.session.specs.Calls.{Test}
-use Rattle.session.specs.Faults.{own, told}
+use Rattle.session.specs.Faults.{Refusal, own, told}
 use Rattle.session.specs.State.{State, is-quiet}
 
 -- a pass with the number p names this session, and a round is under way
@@ -80,3 +82,13 @@ abbrev pub stepped-pass : Result Step (Refused RoundPass) → ℕ
 stepped-pass (Ok (Traded x pass)) = pass .number
 stepped-pass (Ok (Done pass)) = pass .number
 stepped-pass (Err e) = e .pass .number
+
+-- the answer without its pass: the trade, or none as the round is done, or the refusal
+abbrev pub stepped-told : Result Step (Refused RoundPass) → Result (Option Trade) Refusal
+stepped-told (Ok (Traded x pass)) = Ok (Some x)
+stepped-told (Ok (Done pass)) = Ok None
+stepped-told (Err e) = Err (told (e .fault))
+
+-- A step with this pass number over these places has no other answer, and leaves no other places and no other session.
+abbrev pub Only-step : State → ℕ → List ℕ → Result Step (Refused RoundPass) → List ℕ → State → Type 0
+Only-step s p before r after t = (r′ : Result Step (Refused RoundPass)) (after′ : List ℕ) (t′ : State) → Stepped s p before r′ after′ t′ → (stepped-told r′ ≡ stepped-told r) × (after′ ≡ after) × (t′ ≡ t)

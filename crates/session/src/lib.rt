@@ -3,6 +3,7 @@ mod calls;
 mod checks;
 pub mod entries;
 pub mod faults;
+pub mod finishing;
 pub mod passes;
 pub mod phases;
 mod settling;

@@ -12,7 +12,7 @@ ghost use Rattle.trades.specs.Deals.{Deals};
 ghost use Rattle.session.specs.declared.phases.Phase.the-variants.{Under};
 ghost use Rattle.session.specs.Faults.{told};
 ghost use Rattle.session.specs.State.{state};
-ghost use Rattle.session.specs.Steps.{«step-tests», «after-trade», «after-round», rested, Stepped, «stepped-pass»};
+ghost use Rattle.session.specs.Steps.{«step-tests», «after-trade», «after-round», rested, Stepped, «stepped-pass», «Only-step»};
 use crate::faults::SessionFault;
 use crate::passes::QuietPass;
 use crate::passes::Refused;
@@ -86,6 +86,7 @@ impl<R: Register> Session<R> {
     pub fn step(&mut self, pass: RoundPass, places: &mut [u32]) -> Result<Step, Refused<RoundPass>>
         ensures step { λ r. ⌜ Stepped (state (R·Register .meaning) (now (self .entry))) (pass .number) (now (places .entry)) r (now (places .exit)) (state (R·Register .meaning) (now (self .exit))) ⌝ }
         ensures pass { λ r. ⌜ «stepped-pass» r ≡ pass .number ⌝ }
+        ensures only { λ r. ⌜ «Only-step» (state (R·Register .meaning) (now (self .entry))) (pass .number) (now (places .entry)) r (now (places .exit)) (state (R·Register .meaning) (now (self .exit))) ⌝ }
     {
         let round = match self.check_round(pass.number, places.len()) {
             Ok(round) => round,

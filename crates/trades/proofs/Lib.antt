@@ -1,3 +1,4 @@
 -- Lemmas.
 pub mod Dealing
+pub mod Once
 mod Written
