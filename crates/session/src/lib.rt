@@ -9,4 +9,6 @@ pub mod phases;
 mod settling;
 pub mod state;
 pub mod steps;
+#[cfg(test)]
+mod tests;
 mod works;

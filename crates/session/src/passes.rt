@@ -13,12 +13,14 @@ pub struct RoundPass {
 }
 
 // A refused call hands its pass back.
+#[derive(Drop)]
 pub struct Refused<P> {
     pub fault: SessionFault,
     pub pass: P,
 }
 
 // A closing answers how many orders went.
+#[derive(Drop)]
 pub struct Closing {
     pub gone: usize,
     pub pass: QuietPass,

@@ -4,6 +4,7 @@ ghost use Rattle.book.specs.Orderly.{Orderly};
 use crate::phases::Phase;
 use book::places::Book;
 
+#[derive(Drop)]
 pub struct Session<R> {
     pub(crate) number: u32,
     pub(crate) phase: Phase,

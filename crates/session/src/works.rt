@@ -18,6 +18,7 @@ use capacity::register::Register;
 use matching::round::Round;
 
 impl<R: Register> Session<R> {
+    // An explicit request.
     pub(crate) fn grant(
         &mut self,
         pass: u32,
@@ -36,6 +37,7 @@ impl<R: Register> Session<R> {
         Ok(())
     }
 
+    // A notice.
     pub(crate) fn note(
         &mut self,
         pass: u32,
@@ -55,6 +57,7 @@ impl<R: Register> Session<R> {
         Ok(())
     }
 
+    // A withdrawal.
     pub(crate) fn strike(&mut self, pass: u32, number: u32, member: u32) -> Result<(), SessionFault>
         ensures answer { λ r. ⌜ said told r ≡ withdrawing (state (R·Register .meaning) (now (self .entry))) pass number member .0 ⌝ }
         ensures after { λ _. ⌜ state (R·Register .meaning) (now (self .exit)) ≡ withdrawing (state (R·Register .meaning) (now (self .entry))) pass number member .1 ⌝ }
@@ -67,7 +70,7 @@ impl<R: Register> Session<R> {
         Ok(())
     }
 
-    // A closing that no test refuses can go on.
+    // All that is asked of a closing.
     pub(crate) fn check_closing(&self, pass: u32, contract: u32) -> Result<(), SessionFault>
         ensures { λ r. ⌜ said told r ≡ answered («close-tests» (state (R·Register .meaning) (now (self .entry))) pass contract) ⌝ }
     {
@@ -88,6 +91,7 @@ impl<R: Register> Session<R> {
         self.check_unused(entry.number)
     }
 
+    // An entry.
     pub(crate) fn admit(&mut self, pass: u32, entry: &Entry) -> Result<(), SessionFault>
         ensures answer { λ r. ⌜ said told r ≡ entering (state (R·Register .meaning) (now (self .entry))) pass (now (entry .entry)) .0 ⌝ }
         ensures after { λ _. ⌜ state (R·Register .meaning) (now (self .exit)) ≡ entering (state (R·Register .meaning) (now (self .entry))) pass (now (entry .entry)) .1 ⌝ }
