@@ -19,17 +19,21 @@ use Rattle.session.specs.declared.passes.RoundPass.{RoundPass}
 use Rattle.session.specs.declared.steps.Step.{Step}
 use Rattle.session.specs.declared.steps.Step.the-variants.{Traded, Done}
 use Rattle.session.specs.Steps.{round-here, step-tests, Trades, Ends, Stepped, stepped-pass}
-use Rattle.session.specs.Rounds.{Logged, Makes, Ran, round-tests}
+use Rattle.session.specs.Rounds.{Logged, Makes, Ran, round-tests, Noted}
 
--- From s, with the log as it was before, the trades xs have led to u; the pass has been taken unless nothing has happened yet.
-pub record Going (s : State) (p : ℕ) (before after : List Logged) (u : State) : Type 0 where
+-- From s, with the log as it was before, the trades made have led to u; the pass has been taken unless nothing has happened yet.
+pub record Going {L : Type 0} (N : L → Logged → L → Type 0) (s : State) (p : ℕ) (before after : L) (u : State) : Type 0 where
   pub made : List Logged
-  pub noted : after ≡ before ++ made
+  pub noted : Noted N before made after
   pub rest : (ys : List Logged) (t : State) → Ran u ys t → Ran s (made ++ ys) t
   pub taken : ((after ≡ before) × (u ≡ s)) ⊎ ((round-here s p ≡ true) × (round-here u p ≡ true))
 
-pub begun : (s : State) (p : ℕ) (log : List Logged) → Going s p log log s
-begun s p log = record { made = []; noted = sym (append-nil log); rest = λ ys t r. r; taken = inl (refl, refl) }
+pub begun : {L : Type 0} (N : L → Logged → L → Type 0) (s : State) (p : ℕ) (log : L) → Going N s p log log s
+begun N s p log = record { made = []; noted = refl; rest = λ ys t r. r; taken = inl (refl, refl) }
+
+noted-more : {L : Type 0} (N : L → Logged → L → Type 0) (a b d : L) (xs : List Logged) (x : Logged) → Noted N a xs b → N b x d → Noted N a (xs ++ x ∷ []) d
+noted-more {L} N a b d [] x e h = (d, subst (λ (y : L). N y x d) e h, refl)
+noted-more N a b d (y ∷ xs) x (l, n, k) h = (l, n, noted-more N l b d xs x k h)
 
 -- what the tests say of the round
 passed : (b : Bool) (n : ℕ) → answered ((not b, own 1) ∷ (ltb n 16, own 15) ∷ []) ≡ Ok tt → b ≡ true
@@ -75,31 +79,31 @@ areas-are s ps x qs t d = ap (λ (n : ℕ). take n qs) (sub-zero (x .areas) ∙ 
     front (y ∷ xs) ys = ap (λ r. y ∷ r) (front xs ys)
 
 -- the pass has been taken, whatever came before
-was-here : (s : State) (p : ℕ) (before after : List Logged) (u : State) → Going s p before after u → round-here u p ≡ true → round-here s p ≡ true
-was-here s p before after u g h = elim (g .taken) [ inl e ↦ ap (λ (w : State). round-here w p) (sym (e .1)) ∙ h | inr e ↦ e .0 ]
+was-here : {L : Type 0} (N : L → Logged → L → Type 0) (s : State) (p : ℕ) (before after : L) (u : State) → Going N s p before after u → round-here u p ≡ true → round-here s p ≡ true
+was-here N s p before after u g h = elim (g .taken) [ inl e ↦ ap (λ (w : State). round-here w p) (sym (e .1)) ∙ h | inr e ↦ e .0 ]
 
-pub trades-on : (s : State) (p q : ℕ) (before mid after : List Logged) (u : State) (ps : List ℕ) (x : Trade) (qs : List ℕ) (v : State)
-    → Going s p before mid u → q ≡ p → answered (step-tests u q (length ps)) ≡ Ok tt → (d : Trades u ps x qs v) → after ≡ mid ++ record { trade = x; route = d .route } ∷ [] → Going s p before after v
-trades-on s p q before mid after u ps x qs v g e ok d noted =
+pub trades-on : {L : Type 0} (N : L → Logged → L → Type 0) (s : State) (p q : ℕ) (before mid after : L) (u : State) (ps : List ℕ) (x : Trade) (qs : List ℕ) (v : State)
+    → Going N s p before mid u → q ≡ p → answered (step-tests u q (length ps)) ≡ Ok tt → (d : Trades u ps x qs v) → N mid (record { trade = x; route = d .route }) after → Going N s p before after v
+trades-on N s p q before mid after u ps x qs v g e ok d noted =
     let m : Logged = record { trade = x; route = d .route } in
     let now-here : round-here u p ≡ true = ap (round-here u) (sym e) ∙ passed (round-here u q) (length ps) ok in
     let makes : Makes u m v = record { round = d .round; under-way = d .under-way; deal = d .deal; state = d .state } in
     record {
       made = g .made ++ m ∷ [];
-      noted = noted ∙ ap (λ (r : List Logged). r ++ m ∷ []) (g .noted) ∙ append-assoc before (g .made) (m ∷ []);
+      noted = noted-more N before mid after (g .made) m (g .noted) noted;
       rest = λ ys t r. subst (λ (zs : List Logged). Ran s zs t) (sym (append-assoc (g .made) (m ∷ []) ys)) (g .rest (m ∷ ys) t (v, makes, r));
-      taken = inr (was-here s p before mid u g now-here, ap (λ (w : State). round-here w p) (d .state) ∙ now-here);
+      taken = inr (was-here N s p before mid u g now-here, ap (λ (w : State). round-here w p) (d .state) ∙ now-here);
     }
 
-pub ends-so : (s : State) (p q n : ℕ) (before after : List Logged) (u t : State)
-    → Going s p before after u → q ≡ p → answered (step-tests u q n) ≡ Ok tt → Ends u t → (answered (round-tests s p) ≡ Ok tt) × ((xs : List Logged) × (after ≡ before ++ xs) × Ran s xs t)
-ends-so s p q n before after u t g e ok ends =
+pub ends-so : {L : Type 0} (N : L → Logged → L → Type 0) (s : State) (p q n : ℕ) (before after : L) (u t : State)
+    → Going N s p before after u → q ≡ p → answered (step-tests u q n) ≡ Ok tt → Ends u t → (answered (round-tests s p) ≡ Ok tt) × ((xs : List Logged) × Noted N before xs after × Ran s xs t)
+ends-so N s p q n before after u t g e ok ends =
     let now-here : round-here u p ≡ true = ap (round-here u) (sym e) ∙ passed (round-here u q) n ok in
-    (here (round-here s p) (was-here s p before after u g now-here), (g .made, g .noted, subst (λ (zs : List Logged). Ran s zs t) (append-nil (g .made)) (g .rest [] t ends)))
+    (here (round-here s p) (was-here N s p before after u g now-here), (g .made, g .noted, subst (λ (zs : List Logged). Ran s zs t) (append-nil (g .made)) (g .rest [] t ends)))
 
-pub refused-so : (s : State) (p q n : ℕ) (before after : List Logged) (u t : State) (f : Refusal)
-    → Going s p before after u → q ≡ p → n ≡ 16 → answered (step-tests u q n) ≡ Err f → t ≡ u → (answered (round-tests s p) ≡ Err f) × (after ≡ before) × (t ≡ s)
-refused-so s p q n before after u t f g e l err same =
+pub refused-so : {L : Type 0} (N : L → Logged → L → Type 0) (s : State) (p q n : ℕ) (before after : L) (u t : State) (f : Refusal)
+    → Going N s p before after u → q ≡ p → n ≡ 16 → answered (step-tests u q n) ≡ Err f → t ≡ u → (answered (round-tests s p) ≡ Err f) × (after ≡ before) × (t ≡ s)
+refused-so N s p q n before after u t f g e l err same =
     let no = failed (round-here u q) f n l err in
     elim (g .taken) [
       | inl k ↦ (subst (λ (w : State). answered (round-tests w p) ≡ Err f) (k .1) (subst (λ (r : ℕ). answered (round-tests u r) ≡ Err f) e (no .1)), k .0, same ∙ k .1)

@@ -38,10 +38,15 @@ Ran s (x ∷ xs) t = (u : State) × Makes s x u × Ran u xs t
 abbrev pub round-tests : State → ℕ → List Test
 round-tests s p = (not (round-here s p), own 1) ∷ []
 
+-- these trades are noted one after another, where N says what noting one makes of a log
+abbrev pub Noted : {L : Type 0} → (L → Logged → L → Type 0) → L → List Logged → L → Type 0
+Noted N a [] b = b ≡ a
+Noted {L} N a (x ∷ xs) b = (l : L) × N a x l × Noted N l xs b
+
 -- How a round is run to its end with a pass of number p: the log before and after it, and the session after it.
-abbrev pub Finished : State → ℕ → List Logged → Result QuietPass (Refused RoundPass) → List Logged → State → Type 0
-Finished s p before (Err e) after t = (answered (round-tests s p) ≡ Err (told (e .fault))) × (after ≡ before) × (t ≡ s)
-Finished s p before (Ok pass) after t = (answered (round-tests s p) ≡ Ok tt) × ((xs : List Logged) × (after ≡ before ++ xs) × Ran s xs t)
+abbrev pub Finished : {L : Type 0} → (L → Logged → L → Type 0) → State → ℕ → L → Result QuietPass (Refused RoundPass) → L → State → Type 0
+Finished N s p before (Err e) after t = (answered (round-tests s p) ≡ Err (told (e .fault))) × (after ≡ before) × (t ≡ s)
+Finished N s p before (Ok pass) after t = (answered (round-tests s p) ≡ Ok tt) × ((xs : List Logged) × Noted N before xs after × Ran s xs t)
 
 -- the number on the pass that comes back
 abbrev pub finished-pass : Result QuietPass (Refused RoundPass) → ℕ

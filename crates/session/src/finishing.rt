@@ -1,6 +1,5 @@
 // A round stepped to its end, with each trade handed to the caller.
 ghost use mathlib.Core.Path.{_≡_};
-ghost use mathlib.Core.List.{List, [], _∷_, _++_};
 ghost use denote.Ref.{now};
 ghost use Rattle.session.specs.State.{state};
 ghost use Rattle.session.specs.Rounds.{Logged, Finished, «finished-pass»};
@@ -15,14 +14,14 @@ use trades::Trade;
 // The most areas of a route.
 const ROUTE_PLACES: usize = 16;
 
-// What a caller keeps of the trades of a round.
+// What a caller does with the trades of a round.
 pub trait TradeLog {
-    // oldest first
-    ghost logged: { Self → List Logged };
+    // what noting a trade makes of the log; one that can fail says so here
+    ghost notes: { Self → Logged → Self → Type 0 };
 
     // Notes a trade and the areas of its route.
     fn note(&mut self, trade: &Trade, route: &[u32])
-        ensures { λ _. ⌜ logged (now (self .exit)) ≡ logged (now (self .entry)) ++ record { trade = now (trade .entry); route = now (route .entry) } ∷ [] ⌝ };
+        ensures { λ _. ⌜ notes (now (self .entry)) (record { trade = now (trade .entry); route = now (route .entry) }) (now (self .exit)) ⌝ };
 }
 
 impl<R: Register> Session<R> {
@@ -32,7 +31,7 @@ impl<R: Register> Session<R> {
         pass: RoundPass,
         log: &mut L,
     ) -> Result<QuietPass, Refused<RoundPass>>
-        ensures ran { λ r. ⌜ Finished (state (R·Register .meaning) (now (self .entry))) (pass .number) (L·TradeLog .logged (now (log .entry))) r (L·TradeLog .logged (now (log .exit))) (state (R·Register .meaning) (now (self .exit))) ⌝ }
+        ensures ran { λ r. ⌜ Finished (L·TradeLog .notes) (state (R·Register .meaning) (now (self .entry))) (pass .number) (now (log .entry)) r (now (log .exit)) (state (R·Register .meaning) (now (self .exit))) ⌝ }
         ensures pass { λ r. ⌜ «finished-pass» r ≡ pass .number ⌝ }
     {
         let mut places = [0u32; ROUTE_PLACES];

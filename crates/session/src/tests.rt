@@ -1,5 +1,8 @@
 // Two worked rounds: one that a grant opens, and one that goes to the better price across a border.
+ghost use mathlib.Core.Path.{_≡_};
+ghost use Rattle.std.specs.declared.option.Option.the-variants.{Some};
 use crate::entries::Entry;
+use crate::finishing::TradeLog;
 use crate::passes::QuietPass;
 use crate::passes::Refused;
 use crate::passes::RoundPass;
@@ -45,6 +48,36 @@ fn done(session: &mut Market, pass: RoundPass) -> Result<QuietPass, Fail> {
                 let RoundPass { number: _ } = pass;
                 Err(Fail::new("traded"))
             }
+        },
+        Err(refused) => {
+            let Refused { fault: _, pass } = refused;
+            let RoundPass { number: _ } = pass;
+            Err(Fail::new("refused"))
+        }
+    }
+}
+
+// Keeps the last trade that it is handed.
+#[derive(Drop)]
+struct LastTrade {
+    trade: Option<Trade>,
+}
+
+impl TradeLog for LastTrade as LastTradeLog {
+    ghost notes = { λ a x b. b .trade ≡ Some (x .trade) };
+
+    fn note(&mut self, trade: &Trade, _route: &[u32]) {
+        self.trade = Some(*trade);
+    }
+}
+
+// Runs a round to its end, and gives its last trade.
+fn run_out(session: &mut Market, pass: RoundPass) -> Result<Trade, Fail> {
+    let mut log = LastTrade { trade: None };
+    match session.finish_round(pass, &mut log) {
+        Ok(_) => match log.trade {
+            Some(trade) => Ok(trade),
+            None => Err(Fail::new("no trade")),
         },
         Err(refused) => {
             let Refused { fault: _, pass } = refused;
@@ -138,8 +171,7 @@ fn better_price_across_the_border() -> Result<(), Fail> {
     let round = entered(&mut session, pass, 3, Side::Sell, 1, 5_500)?;
     let pass = done(&mut session, round)?;
     let round = entered(&mut session, pass, 4, Side::Sell, 0, 4_500)?;
-    let (trade, round) = stepped(&mut session, round)?;
-    let _pass = done(&mut session, round)?;
+    let trade = run_out(&mut session, round)?;
     check_eq(trade.buyer, 2)?;
     check_eq(trade.price, 6_000)?;
     check_eq(session.resting(), 2)

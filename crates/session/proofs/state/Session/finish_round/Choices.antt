@@ -11,7 +11,7 @@ abbrev pub Inv-loop-made : given.InvT-loop-made
 Inv-loop-made g l =
     (length (l .places) ≡ 16)
     × (l .pass .number ≡ l .entry .pass .number)
-    × Going (state (g .R·Register .meaning) (l .entry .self)) (l .entry .pass .number) (g .L·TradeLog .logged (l .entry .log)) (g .L·TradeLog .logged (l .log)) (state (g .R·Register .meaning) (l .self))
+    × Going (g .L·TradeLog .notes) (state (g .R·Register .meaning) (l .entry .self)) (l .entry .pass .number) (l .entry .log) (l .log) (state (g .R·Register .meaning) (l .self))
 
 abbrev pub μ-loop-made : given.MeasureT-loop-made
 μ-loop-made g l = total-open (orders (l .self .book))
