@@ -62,12 +62,13 @@ def turned_ghost(text, wanted):
 
 
 def turned_source(text, wanted):
-    """In a source file only what is quoted is the ghost's for sure, and its quotes go where they are not needed."""
+    """In a source file what is quoted is the ghost's, and its quotes go where they are not needed; a dash is in no name of the code."""
     def quoted(m):
         name = wanted.get(m.group(1), m.group(1))
         return name if re.fullmatch(r'[a-z]+(_[a-z0-9]+)+|[A-Z][A-Za-z0-9]*', name) else '«%s»' % name
     text = re.sub(r'«([^»]*)»', quoted, text)
-    # unquoted names stand in the ghost lines and clauses alone
+    text = re.sub(r"(?<![\w'-])[A-Za-z][A-Za-z0-9']*(?:-[A-Za-z0-9']+)+(?![\w'-])", lambda m: wanted.get(m.group(0), m.group(0)), text)
+    # other unquoted names stand in the ghost lines and clauses alone
     ghost = re.compile(r'^(\s*(?:ghost\b|ensures\b|requires\b).*)$', re.M)
     camel = {n: w for n, w in wanted.items() if '-' not in n}
     return ghost.sub(lambda m: re.sub(r"[A-Za-z_][A-Za-z0-9_']*", lambda t: camel.get(t.group(0), t.group(0)), m.group(1)), text)

@@ -1,4 +1,6 @@
 // Orders, icebergs and the book of 128 places.
+#![tactic(auto)]
+
 pub mod faults;
 mod iced;
 pub mod places;

@@ -1,6 +1,6 @@
 // The book: the orders of all contracts, oldest first.
 ghost use Rattle.std.specs.Prelude.{◌≡◌, ◌≤◌, [], length, None};
-ghost use Rattle.std.specs.shelf.Lists.{kept_by};
+ghost use Rattle.std.specs.List.{filter};
 ghost use Rattle.book.specs.Orderly.{Fit, Orderly};
 ghost use Rattle.book.specs.Orders.{rests};
 ghost use Rattle.book.specs.Refusals.{told};
@@ -128,7 +128,7 @@ impl Book {
 
     // Takes the order of this number out if it is IOC, which never rests.
     pub fn drop_ioc(&mut self, incoming: u32)
-        ensures after { orders self.new ≡ kept_by (rests incoming) (orders self.old) }
+        ensures after { orders self.new ≡ filter (rests incoming) (orders self.old) }
         ensures orderly { Orderly (orders self.old) → Orderly (orders self.new) }
     {
         let n = self.len();
@@ -144,8 +144,8 @@ impl Book {
 
     // Takes the orders of a contract out and answers how many there were.
     pub fn close(&mut self, contract: u32) -> usize
-        ensures answer { result ≡ length (kept_by (of_contract contract) (orders self.old)) }
-        ensures after { orders self.new ≡ kept_by (not_of_contract contract) (orders self.old) }
+        ensures answer { result ≡ length (filter (of_contract contract) (orders self.old)) }
+        ensures after { orders self.new ≡ filter (not_of_contract contract) (orders self.old) }
         ensures orderly { Orderly (orders self.old) → Orderly (orders self.new) }
     {
         let n = self.len();

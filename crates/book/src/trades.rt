@@ -1,6 +1,6 @@
 // What a trade does to the book.
 ghost use Rattle.std.specs.Prelude.{◌≡◌, map};
-ghost use Rattle.std.specs.shelf.Lists.{kept_by};
+ghost use Rattle.std.specs.List.{filter};
 ghost use Rattle.std.specs.List.{AllByRecursion as All};
 ghost use Rattle.book.specs.Orders.{shows};
 ghost use Rattle.book.specs.Orderly.{Fit, Orderly};
@@ -28,7 +28,7 @@ impl Book {
 
     // A book of what still shows, in its order.
     fn showing(&self) -> Book
-        ensures { orders result ≡ kept_by shows (orders self.now) }
+        ensures { orders result ≡ filter shows (orders self.now) }
     {
         let n = self.len();
         let mut left = Book::new();

@@ -1,4 +1,6 @@
 // Cross-border capacity: the map of connectors, what a register of capacity means, and two registers.
+#![tactic(auto)]
+
 mod checks;
 pub mod example;
 pub mod faults;

@@ -1,4 +1,6 @@
 // A capacity register in cells that the caller lends: one for each noted pair of contract and connector.
+#![tactic(auto)]
+
 pub mod cell;
 mod checks;
 pub mod example;

@@ -1,4 +1,6 @@
 // What a trade asks of a capacity register: which directions are open, what a route can carry, and the takes along it.
+#![tactic(auto)]
+
 mod directions;
 mod trades;
 

@@ -1,4 +1,6 @@
 // The lines of a script: a reader over them, their words, and the calls that they ask for.
+#![tactic(auto)]
+
 pub mod asking;
 mod entries;
 pub mod faults;

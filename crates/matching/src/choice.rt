@@ -2,7 +2,7 @@
 ghost use Rattle.std.specs.Prelude.{◌≡◌, ℕ, length, MatchOption};
 ghost use Rattle.book.specs.Places.{orders};
 ghost use Rattle.routes.specs.Grids.{Leads};
-ghost use Rattle.matching.specs.Pairs.{In-round, Chosen};
+ghost use Rattle.matching.specs.Pairs.{InRound, Chosen};
 ghost use Rattle.matching.specs.Bests.{Best, Higher, Paired};
 ghost use Rattle.matching.specs.Ways.{Sound};
 
@@ -32,7 +32,7 @@ fn higher(book: &Book, best: Option<usize>, next: usize) -> usize
 // The highest-ranked sell in a pair of the round with the buy at `i`.
 fn best_sell(book: &Book, ways: &Ways, round: Round, i: usize) -> Option<usize>
     requires { Sound ways.now }
-    ensures { Best (In-round (Leads ways.now.grid) round (orders book.now) i) (orders book.now) (length (orders book.now)) result }
+    ensures { Best (InRound (Leads ways.now.grid) round (orders book.now) i) (orders book.now) (length (orders book.now)) result }
 {
     let n = book.len();
     let mut best = None;
@@ -62,7 +62,7 @@ fn best_buy(book: &Book, ways: &Ways, round: Round) -> Option<usize>
 // The pair that the round trades: the highest-ranked buy in any pair of it, and the highest-ranked sell with that buy.
 // At most 64 × 64 of the book's 128 × 128 pairs of places hold a buy and a sell; the sells for the buy found are gone through once more.
 pub fn choose(book: &Book, grid: &Grid, round: Round) -> Option<Pair>
-    ensures chosen { MatchOption result ((i j : ℕ) → In-round (Leads grid.now) round (orders book.now) i j → ⊥) (λ p. Chosen (Leads grid.now) round (orders book.now) p.buy p.sell) }
+    ensures chosen { MatchOption result ((i j : ℕ) → InRound (Leads grid.now) round (orders book.now) i j → ⊥) (λ p. Chosen (Leads grid.now) round (orders book.now) p.buy p.sell) }
     ensures only { (i j : ℕ) → Chosen (Leads grid.now) round (orders book.now) i j → MatchOption result ⊥ (λ p. (p.buy ≡ i) × (p.sell ≡ j)) }
 {
     let ways = Ways::of(grid);

@@ -1,4 +1,6 @@
 // Which pair of orders a round trades.
+#![tactic(auto)]
+
 mod choice;
 mod pairs;
 pub mod round;

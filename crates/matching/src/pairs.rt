@@ -2,7 +2,7 @@
 ghost use Rattle.std.specs.Prelude.{Decides};
 ghost use Rattle.book.specs.Places.{orders};
 ghost use Rattle.routes.specs.Grids.{Leads};
-ghost use Rattle.matching.specs.Pairs.{In-round};
+ghost use Rattle.matching.specs.Pairs.{InRound};
 ghost use Rattle.matching.specs.Orders.{Meeting, Concerns, Trading};
 ghost use Rattle.matching.specs.Ways.{Sound};
 
@@ -47,7 +47,7 @@ fn trading(ways: &Ways, round: Round, buy: &Order, sell: &Order) -> bool
 // Whether the places `i` and `j` are a pair of the round.
 pub(crate) fn pairs(book: &Book, ways: &Ways, round: Round, i: usize, j: usize) -> bool
     requires { Sound ways.now }
-    ensures { Decides result (In-round (Leads ways.now.grid) round (orders book.now) i j) }
+    ensures { Decides result (InRound (Leads ways.now.grid) round (orders book.now) i j) }
 {
     let Some(buy) = book.order(i) else {
         return false;

@@ -1,4 +1,6 @@
 // Number words read exactly as counts of a unit, and counts printed so that they read back the same.
+#![tactic(auto)]
+
 ghost use Rattle.std.specs.Prelude.{◌≡◌, ◌≤◌, true, false, pos, IfOk, Ok, string_bytes, MatchResult};
 ghost use Rattle.numbers.specs.Numerals.{minus_text, signed_as};
 ghost use Rattle.numbers.specs.Reading.{scale_of, fault_number, Means, Answers, as_signed, OnlySigned, OnlyUnsigned};

@@ -1,7 +1,7 @@
 // Calls played one after another on a session begun afresh, each round run to its end.
 ghost use Rattle.std.specs.Prelude.{◌≡◌, IfOk};
 ghost use Rattle.events.specs.Events.{begins_round, round_follows};
-ghost use Rattle.history.specs.Laws.{Laws-hold, One-answer};
+ghost use Rattle.history.specs.Laws.{LawsHold, OneAnswer};
 ghost use Rattle.session.specs.State.{state};
 ghost use Rattle.player.specs.Logs.{TurnNoted};
 ghost use Rattle.player.specs.Playing.{Plays, calls_of};
@@ -63,8 +63,8 @@ pub fn play<R: Register + Drop>(
 ) -> Result<Vec<Event>, AllocError>
     ensures history { IfOk result (λ events. Plays (R.Register.meaning register) number calls.now events.items) }
     ensures played { IfOk result (λ events. calls_of events.items ≡ calls.now) }
-    ensures laws { Laws-hold }
-    ensures once { One-answer }
+    ensures laws { LawsHold }
+    ensures once { OneAnswer }
 {
     let (mut session, mut pass) = Session::begin(number, register);
     let mut log = EventLog::new(heap, number);

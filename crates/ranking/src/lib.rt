@@ -1,4 +1,6 @@
 // Ranked lists in lines that the caller lends.
+#![tactic(auto)]
+
 pub mod example;
 pub mod faults;
 pub mod insertion;

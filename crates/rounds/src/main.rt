@@ -1,4 +1,6 @@
 // Runs a script of a trading session, from a file or from standard input, and prints what it carried out.
+#![tactic(auto)]
+
 use anyhow::anyhow;
 use std::env;
 use std::fs::File;

@@ -1,7 +1,7 @@
 // Levels: how many areas it takes to get from each area to one, found from that one against the flow.
 ghost use Rattle.std.specs.Prelude.{ℕ, ◌<◌, ◌≤◌, MatchOption};
 ghost use Rattle.routes.specs.Grids.{Leads};
-ghost use Rattle.routes.specs.Levels.{All-levels, Lowest-open, Next, None-open};
+ghost use Rattle.routes.specs.Levels.{AllLevels, LowestOpen, Next, NoneOpen};
 
 use crate::grid::{AREAS, Grid};
 
@@ -14,7 +14,7 @@ const FIRST: u32 = 1;
 // The lowest area of this level that is open from `a`.
 pub(crate) fn lowest(grid: &Grid, levels: &[u32; 16], a: u32, level: u32) -> Option<u32>
     requires { a < 16 }
-    ensures { MatchOption result (None-open (Leads grid.now) levels.now a level) (λ b. Lowest-open (Leads grid.now) levels.now a level b) }
+    ensures { MatchOption result (NoneOpen (Leads grid.now) levels.now a level) (λ b. LowestOpen (Leads grid.now) levels.now a level b) }
 {
     for b in 0..AREAS {
         if grid.is_open(a, b) && levels[b as usize] == level {
@@ -40,7 +40,7 @@ fn spread(grid: &Grid, levels: &mut [u32; 16], level: u32)
 // Fifteen sweeps over sixteen areas, each with at most sixteen tests: at most 3,840 tests.
 pub(crate) fn levels_to(grid: &Grid, to: u32) -> [u32; 16]
     requires { to < 16 }
-    ensures { All-levels (Leads grid.now) to result }
+    ensures { AllLevels (Leads grid.now) to result }
 {
     let mut levels = [NO_PATH; 16];
     levels[to as usize] = FIRST;

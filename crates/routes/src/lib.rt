@@ -1,4 +1,6 @@
 // Paths and routes among sixteen areas, over a grid of open directions.
+#![tactic(auto)]
+
 mod grid;
 mod levels;
 mod route;

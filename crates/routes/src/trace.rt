@@ -3,9 +3,9 @@ ghost use Rattle.std.specs.Prelude.{◌≡◌, ℕ, ◌<◌, ◌≤◌, Bool, Li
 ghost use Rattle.routes.specs.Example.{Example};
 ghost use Rattle.routes.specs.Grids.{Leads};
 ghost use Rattle.routes.specs.Laws.{Alike};
-ghost use Rattle.routes.specs.Levels.{All-levels, lv};
+ghost use Rattle.routes.specs.Levels.{AllLevels, lv};
 ghost use Rattle.routes.specs.Listed.{listed};
-ghost use Rattle.routes.specs.Paths.{Path, Is-route};
+ghost use Rattle.routes.specs.Paths.{Path, IsRoute};
 
 use crate::grid::{AREAS, Grid};
 use crate::levels::{NO_PATH, levels_to, lowest};
@@ -24,10 +24,10 @@ impl Route {
 
 // The route by the levels on the way to `to`: a level lower each time, through the lowest area.
 fn trace(grid: &Grid, levels: &[u32; 16], from: u32, to: u32) -> Route
-    requires levels { All-levels (Leads grid.now) to levels.now }
+    requires levels { AllLevels (Leads grid.now) to levels.now }
     requires from { from < 16 }
     requires some { 0 < lv levels.now from }
-    ensures { Is-route (Leads grid.now) from to (listed result) }
+    ensures { IsRoute (Leads grid.now) from to (listed result) }
 {
     let mut areas = [0; 16];
     areas[0] = from;
@@ -50,8 +50,8 @@ impl Grid {
     // The route from one area to another, none exactly where no path leads.
     // After the levels at most fifteen areas more are sought, each with at most sixteen tests.
     pub fn route(&self, from: u32, to: u32) -> Option<Route>
-        ensures answer { MatchOption result ((xs : List ℕ) → Path (Leads self.now) from to xs → ⊥) (λ w. Is-route (Leads self.now) from to (listed w)) }
-        ensures only { (xs : List ℕ) → Is-route (Leads self.now) from to xs → MatchOption result ⊥ (λ w. listed w ≡ xs) }
+        ensures answer { MatchOption result ((xs : List ℕ) → Path (Leads self.now) from to xs → ⊥) (λ w. IsRoute (Leads self.now) from to (listed w)) }
+        ensures only { (xs : List ℕ) → IsRoute (Leads self.now) from to xs → MatchOption result ⊥ (λ w. listed w ≡ xs) }
         ensures alike { (f g : ℕ → ℕ → Bool) → Alike f g }
         ensures example { Example }
     {

@@ -1,4 +1,6 @@
 // Scripts of trading sessions: read line by line and word by word, and run.
+#![tactic(auto)]
+
 pub mod faults;
 pub mod fields;
 mod lines;

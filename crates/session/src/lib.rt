@@ -1,4 +1,6 @@
 // A session over any register of capacity: passes, phases, and the calls that members and operators make.
+#![tactic(auto)]
+
 mod calls;
 mod checks;
 pub mod entries;

@@ -2,8 +2,8 @@
 ghost use Rattle.std.specs.Prelude.{◌≡◌, ℕ, ◌≤◌, min, MatchOption};
 ghost use Rattle.book.specs.Places.{orders};
 ghost use Rattle.routes.specs.Listed.{listed};
-ghost use Rattle.matching.specs.Pairs.{In-round};
-ghost use Rattle.flows.specs.Flows.{Open-in};
+ghost use Rattle.matching.specs.Pairs.{InRound};
+ghost use Rattle.flows.specs.Flows.{OpenIn};
 ghost use Rattle.trades.specs.Deals.{traded_contract, price, Deals};
 
 use crate::trade::{Deal, Trade};
@@ -47,7 +47,7 @@ fn price_of(round: Round, pair: Pair, buy: &Order, sell: &Order) -> i32
 
 // The trade that the round makes next, with its route; none where no pair of the round is left.
 pub fn next_trade<R: Register>(book: &Book, register: &R, round: Round) -> Option<Deal>
-    ensures { MatchOption result ((i j : ℕ) → In-round (Open-in (R.Register.meaning register.now) (traded_contract round)) round (orders book.now) i j → ⊥) (λ d. Deals (R.Register.meaning register.now) (orders book.now) round d.trade (listed d.route)) }
+    ensures { MatchOption result ((i j : ℕ) → InRound (OpenIn (R.Register.meaning register.now) (traded_contract round)) round (orders book.now) i j → ⊥) (λ d. Deals (R.Register.meaning register.now) (orders book.now) round d.trade (listed d.route)) }
 {
     let contract = contract_of(round);
     let grid = open_grid(register, contract);

@@ -1,4 +1,6 @@
 // What a round trades next: who with whom, along which route, how much and at which price.
+#![tactic(auto)]
+
 mod deals;
 mod places;
 mod trade;

@@ -1,4 +1,6 @@
 // Two views of a session: what its book offers in an area, and what its connectors can carry.
+#![tactic(auto)]
+
 mod directions;
 mod filling;
 pub mod lines;

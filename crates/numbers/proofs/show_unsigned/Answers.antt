@@ -6,6 +6,6 @@ use Rattle.numbers.proofs.show_unsigned.Goals as goal
 
 pub returns : goal.returns
 returns c = record {
-  text = c.show-size.ensures;
-  back = λ h. held c.show-size.result string_bytes _ (λ x. Answers x c.args.unit false (Ok (pos c.args.n))) (back_unsigned c.args.unit c.args.n h) c.show-size.ensures;
+  text = c.show_size.ensures;
+  back = λ h. held c.show_size.result string_bytes _ (λ x. Answers x c.args.unit false (Ok (pos c.args.n))) (back_unsigned c.args.unit c.args.n h) c.show_size.ensures;
 }

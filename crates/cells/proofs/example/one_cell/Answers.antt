@@ -10,4 +10,4 @@ use Rattle.cells.proofs.example.one_cell.Goals as goal
 pub returns : goal.returns
 returns c =
     let map = connect_01 0 (omega arith) _ _ c.new-map.ensures c.connect.ensures.after in
-    c.ask-in.ensures ∙ ap (λ (n : Network). quote_of (reserved (unnoted n.joins 1) n.kept)) map
+    c.ask_in.ensures ∙ ap (λ (n : Network). quote_of (reserved (unnoted n.joins 1) n.kept)) map

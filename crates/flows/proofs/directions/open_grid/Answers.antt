@@ -8,7 +8,7 @@ use Rattle.flows.proofs.directions.open_grid.Goals as goal
 pub loop-from-preserved : goal.loop-from-preserved
 loop-from-preserved g c =
     rows_more (opens c.loop-from.grid) _ (open_in (g.R.Register.meaning c.args.register.now) c.args.contract) c.loop-from.from
-    c.open-from.ensures.here c.open-from.ensures.others c.loop-from.invariant
+    c.open_from.ensures.here c.open_from.ensures.others c.loop-from.invariant
 
 pub returns : goal.returns
 returns g c =

@@ -12,7 +12,7 @@ loop-i-preserved g c =
     let xs = c.areas-areas.result.now in
     let l : c.loop-i.i + 1 < length xs = omega arith in
     along_next (min_flow m c.args.contract) xs c.loop-i.i c.loop-i.least (least_flow m c.args.contract c.args.most xs) c.min-least.result l
-    (min_flow_is m c.args.contract c.loop-i.least c.min-least.result c.flow-between.result _ _ c.min-least.ensures c.flow-between.ensures) c.loop-i.invariant
+    (min_flow_is m c.args.contract c.loop-i.least c.min-least.result c.flow_between.result _ _ c.min-least.ensures c.flow_between.ensures) c.loop-i.invariant
 
 pub returns : goal.returns
 returns g c =
@@ -26,6 +26,6 @@ returns g c =
     along_done (min_flow m k) xs c.loop-i.i c.loop-i.least (least_flow m k n xs) l c.loop-i.invariant ∙ ap (least_flow m k n) c.areas-areas.ensures.listed in
     record {
       value = e;
-      open-route = λ x y p. ap pos e ∙ least_is m k n x y ys p;
+      open_route = λ x y p. ap pos e ∙ least_is m k n x y ys p;
       carries = λ x y p. least_carries m k n c.loop-i.least x y ys e p;
     }

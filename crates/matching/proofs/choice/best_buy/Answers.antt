@@ -6,7 +6,7 @@ use Rattle.routes.specs.Grids.{Leads}
 use Rattle.matching.specs.Bests.{Best, Paired}
 use Rattle.matching.proofs.Ranked.{best_past, best_more, buys, paired, not_paired}
 use Rattle.matching.proofs.choice.best_buy.Goals as goal
-use Rattle.matching.proofs.choice.best_buy.Goals.{then-is-some, else-is-some}
+use Rattle.matching.proofs.choice.best_buy.Goals.{then-is_some, else-is_some}
 
 pub loop-i-preserved : goal.loop-i-preserved
 loop-i-preserved c =
@@ -15,12 +15,12 @@ loop-i-preserved c =
     let os = orders c.args.book.now in
     let i = c.loop-i.i in
     let P = Paired O round os in
-    elim c.if-is-some.branch [
-      | then-is-some w ↦
-          let p : P i = paired O round os i c.best_sell.result (sym w.if-is-some.ensures) c.best_sell.ensures in
+    elim c.if-is_some.branch [
+      | then-is_some w ↦
+          let p : P i = paired O round os i c.best_sell.result (sym w.if-is_some.ensures) c.best_sell.ensures in
           subst (Best P os (i + 1)) (sym w.best-is) (best_more P os Buy (buys O round os) c.loop-i.best i w.higher.result c.loop-i.invariant p w.higher.ensures)
-      | else-is-some w ↦
-          let n : P i → ⊥ = not_paired O round os i c.best_sell.result (sym w.if-is-some.ensures) c.best_sell.ensures in
+      | else-is_some w ↦
+          let n : P i → ⊥ = not_paired O round os i c.best_sell.result (sym w.if-is_some.ensures) c.best_sell.ensures in
           subst (Best P os (i + 1)) (sym w.best-is) (best_past P os c.loop-i.best i c.loop-i.invariant n)
     ]
 

@@ -4,22 +4,22 @@ use Rattle.std.proofs.lemmas.List.{take_all}
 use Rattle.numbers.specs.Numerals.{AllDigits}
 use Rattle.numbers.proofs.Scanned.{all_at, sixteen}
 use Rattle.numbers.proofs.scan.read_digits.Goals as goal
-use Rattle.numbers.proofs.scan.read_digits.Goals.{then-is-empty-via-then-is-empty, then-is-empty-via-else-is-empty+then-digit-run-s}
+use Rattle.numbers.proofs.scan.read_digits.Goals.{then-is_empty-via-then-is_empty, then-is_empty-via-else-is_empty+then-digit_run-s}
 
-pub returns-then-is-empty : goal.returns-then-is-empty
-returns-then-is-empty c = λ d. elim c.then-is-empty.branch [
-  | then-is-empty-via-then-is-empty w ↦ omega (arith, eqb-true _ _ (sym c.is-empty.ensures ∙ w.if-is-empty.true))
-  | then-is-empty-via-else-is-empty+then-digit-run-s w ↦ w.digit-run.ensures.stops (omega arith) (all_at _ _ w.if-digit-run-s.true d.1)
+pub returns-then-is_empty : goal.returns-then-is_empty
+returns-then-is_empty c = λ d. elim c.then-is_empty.branch [
+  | then-is_empty-via-then-is_empty w ↦ omega (arith, eqb-true _ _ (sym c.is_empty.ensures ∙ w.if-is_empty.true))
+  | then-is_empty-via-else-is_empty+then-digit_run-s w ↦ w.digit_run.ensures.stops (omega arith) (all_at _ _ w.if-digit_run-s.true d.1)
 ]
 
-pub read-on-requires : goal.read-on-requires
-read-on-requires c = (subst AllDigits (take_all c.digit-run.result c.args.s.now c.if-digit-run-s.false) c.digit-run.ensures.front, sixteen _ c.requires)
+pub read_on-requires : goal.read_on-requires
+read_on-requires c = (subst AllDigits (take_all c.digit_run.result c.args.s.now c.if-digit_run-s.false) c.digit_run.ensures.front, sixteen _ c.requires)
 
 pub returns : goal.returns
 returns c = (
   (
-    omega (arith, false-eqb _ _ c.if-is-empty.ensures),
-    subst AllDigits (take_all c.digit-run.result c.args.s.now c.if-digit-run-s.false) c.digit-run.ensures.front,
+    omega (arith, false-eqb _ _ c.if-is_empty.ensures),
+    subst AllDigits (take_all c.digit_run.result c.args.s.now c.if-digit_run-s.false) c.digit_run.ensures.front,
   ),
-  c.read-on.ensures,
+  c.read_on.ensures,
 )

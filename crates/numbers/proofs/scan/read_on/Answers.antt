@@ -3,19 +3,19 @@ use Rattle.std.proofs.Common.{◌<◌, ◌≤◌, length, arith}
 use Rattle.numbers.proofs.Laws.{left_more, left_all, room_now}
 use Rattle.numbers.proofs.scan.read_on.Goals as goal
 
-pub overflow-mul-n : goal.overflow-mul-n
-overflow-mul-n c =
+pub overflow_mul-n : goal.overflow_mul-n
+overflow_mul-n c =
     let h : c.loop-d.d-index < length c.args.ds.now = omega arith in
     let l = left_more _ _ c.args.ds.now c.loop-d.d-index h c.loop-d.invariant in
     omega (arith, room_now _ _ l.1.room)
 
-pub overflow-sub-n : goal.overflow-sub-n
-overflow-sub-n c =
+pub overflow_sub-n : goal.overflow_sub-n
+overflow_sub-n c =
     let h : c.loop-d.d-index < length c.args.ds.now = omega arith in
     (left_more _ _ c.args.ds.now c.loop-d.d-index h c.loop-d.invariant).0.0
 
-pub overflow-add-n : goal.overflow-add-n
-overflow-add-n c =
+pub overflow_add-n : goal.overflow_add-n
+overflow_add-n c =
     let h : c.loop-d.d-index < length c.args.ds.now = omega arith in
     let l = left_more _ _ c.args.ds.now c.loop-d.d-index h c.loop-d.invariant in
     omega (arith, room_now _ _ l.1.room)

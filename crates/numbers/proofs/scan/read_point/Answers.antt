@@ -3,18 +3,18 @@ use Rattle.std.proofs.Common.{sym, subst, arith, ltb-false, ltb-true, true-eqb, 
 use Rattle.numbers.specs.Scans.{LonePoint, Pointed}
 use Rattle.numbers.proofs.Scanned.{begins, lone, pointed, pointless, lacks_short}
 use Rattle.numbers.proofs.scan.read_point.Goals as goal
-use Rattle.numbers.proofs.scan.read_point.Goals.{in-default-via-then-s-lt1, in-default-via-else-s-lt1+in-default·}
+use Rattle.numbers.proofs.scan.read_point.Goals.{in_default-via-then-s-lt1, in_default-via-else-s-lt1+in_default·}
 
-pub returns-in-default : goal.returns-in-default
-returns-in-default c = elim c.in-default.branch [
-  | in-default-via-then-s-lt1 w ↦ pointless c.args.s.now c.requires (lacks_short 46 c.args.s.now (omega (arith, ltb-true, ltb-false)) (omega arith))
-  | in-default-via-else-s-lt1+in-default· w ↦ pointless c.args.s.now c.requires (λ e. omega arith)
+pub returns-in_default : goal.returns-in_default
+returns-in_default c = elim c.in_default.branch [
+  | in_default-via-then-s-lt1 w ↦ pointless c.args.s.now c.requires (lacks_short 46 c.args.s.now (omega (arith, ltb-true, ltb-false)) (omega arith))
+  | in_default-via-else-s-lt1+in_default· w ↦ pointless c.args.s.now c.requires (λ e. omega arith)
 ]
 
-pub returns-else-is-empty : goal.returns-else-is-empty
-returns-else-is-empty c =
-    subst (λ s. Pointed s c.digits-then.result.0.now c.digits-then.result.1.now) (sym (begins c.args.s.now 46 (omega (arith, ltb-true, ltb-false)) (omega (arith, ltb-true, ltb-false)))) (pointed _ _ _ c.digits-then.ensures (omega (arith, false-eqb _ _ c.if-is-empty.ensures)))
+pub returns-else-is_empty : goal.returns-else-is_empty
+returns-else-is_empty c =
+    subst (λ s. Pointed s c.digits_then.result.0.now c.digits_then.result.1.now) (sym (begins c.args.s.now 46 (omega (arith, ltb-true, ltb-false)) (omega (arith, ltb-true, ltb-false)))) (pointed _ _ _ c.digits_then.ensures (omega (arith, false-eqb _ _ c.if-is_empty.ensures)))
 
-pub returns-then-is-empty : goal.returns-then-is-empty
-returns-then-is-empty c =
-    subst LonePoint (sym (begins c.args.s.now 46 (omega (arith, ltb-true, ltb-false)) (omega (arith, ltb-true, ltb-false)))) (lone _ _ _ c.digits-then.ensures (true-eqb _ _ c.if-is-empty.ensures))
+pub returns-then-is_empty : goal.returns-then-is_empty
+returns-then-is_empty c =
+    subst LonePoint (sym (begins c.args.s.now 46 (omega (arith, ltb-true, ltb-false)) (omega (arith, ltb-true, ltb-false)))) (lone _ _ _ c.digits_then.ensures (true-eqb _ _ c.if-is_empty.ensures))

@@ -10,12 +10,12 @@ use Rattle.player.proofs.playing.play.Goals as goal
 pub loop-call-preserved : goal.loop-call-preserved
 loop-call-preserved g c =
     let inv = c.loop-call.invariant in
-    let done = c.take-turn-pass.ensures in (
+    let done = c.take_turn-pass.ensures in (
       done.turn.pass ∙ inv.0,
       done.pass ∙ inv.1,
       one_more c.args.number c.loop-call.pass.number
-          (state g.R.Register.meaning c.begin-session.result.0) (state g.R.Register.meaning c.loop-call.session) (state g.R.Register.meaning c.take-turn-pass.new.session)
-          c.args.calls.now c.loop-call.call-index _ c.loop-call.log c.take-turn-pass.new.log c.loop-call-test.true inv.1 inv.2 done.turn,
+          (state g.R.Register.meaning c.begin-session.result.0) (state g.R.Register.meaning c.loop-call.session) (state g.R.Register.meaning c.take_turn-pass.new.session)
+          c.args.calls.now c.loop-call.call-index _ c.loop-call.log c.take_turn-pass.new.log c.loop-call-test.true inv.1 inv.2 done.turn,
     )
 
 pub returns-then-log : goal.returns-then-log

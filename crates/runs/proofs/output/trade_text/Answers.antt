@@ -10,7 +10,7 @@ use Rattle.runs.proofs.output.trade_text.Goals as goal
 pub returns : goal.returns
 returns c =
     let t = c.args.trade.now in
-    let price = c.as-str.ensures.value ∙ c.in-ok-price.ensures.text ∙ ap (shown Euro) (to_z-of_z w32 t.price (search rules)) in
-    let quantity = c.as-str-2.ensures.value ∙ c.in-ok-quantity.ensures.text in
-    let deal = c.in-ok-text.ensures ∙ deal_is t.contract t.buy t.sell _ _ _ _ price quantity in
-    line_printed (deal_text t.contract t.buy t.sell (shown Euro t.price) (shown_size Megawatt t.quantity)) (areas_text c.args.route.now) (trade_line (record { trade = t; route = c.args.route.now })) (string_bytes c.in-ok-text.text) (string_bytes c.areas.new.out) (string_bytes c.push-str.new.self) deal c.in-ok-areas.ensures c.in-ok-push-str.ensures.bytes refl
+    let price = c.as_str.ensures.value ∙ c.in_ok-price.ensures.text ∙ ap (shown Euro) (to_z-of_z w32 t.price (search rules)) in
+    let quantity = c.as_str-2.ensures.value ∙ c.in_ok-quantity.ensures.text in
+    let deal = c.in_ok-text.ensures ∙ deal_is t.contract t.buy t.sell _ _ _ _ price quantity in
+    line_printed (deal_text t.contract t.buy t.sell (shown Euro t.price) (shown_size Megawatt t.quantity)) (areas_text c.args.route.now) (trade_line (record { trade = t; route = c.args.route.now })) (string_bytes c.in_ok-text.text) (string_bytes c.areas.new.out) (string_bytes c.push_str.new.self) deal c.in_ok-areas.ensures c.in_ok-push_str.ensures.bytes refl

@@ -6,5 +6,5 @@ use Rattle.runs.proofs.run.run.Goals as goal
 
 pub returns : goal.returns
 returns c =
-    let prints : Prints c.args.script.now (string_bytes c.run-script.new.out) = search rules in
-    record { prints = prints; only = λ out h. one_print c.args.script.now out (string_bytes c.run-script.new.out) h prints }
+    let prints : Prints c.args.script.now (string_bytes c.run_script.new.out) = search rules in
+    record { prints = prints; only = λ out h. one_print c.args.script.now out (string_bytes c.run_script.new.out) h prints }

@@ -7,24 +7,24 @@ use Rattle.runs.specs.Runs.{answer_line}
 use Rattle.runs.proofs.Noting.{turn_line, unread_line}
 use Rattle.runs.proofs.run.run_line.Goals as goal
 
-pub returns-in-ok-print-answer : goal.returns-in-ok-print-answer
-returns-in-ok-print-answer g c =
+pub returns-in_ok-print_answer : goal.returns-in_ok-print_answer
+returns-in_ok-print_answer g c =
     let s = state g.R.Register.meaning c.args.session.now in
-    let t = state g.R.Register.meaning c.take-turn.new.session in
-    let x = c.in-ok-turn.ensures in
-    let a = c.in-ok-turn.turn.0 in
-    let n : c.line-number-line.result ≡ c.args.reader.now.lines = c.line-number-line.ensures in
-    let end = c.in-ok-print-answer.ensures ∙ ap (λ (i : ℕ). string_bytes c.take-turn.new.out ++ answer_line i a c.resting.result) n in
+    let t = state g.R.Register.meaning c.take_turn.new.session in
+    let x = c.in_ok-turn.ensures in
+    let a = c.in_ok-turn.turn.0 in
+    let n : c.line_number-line.result ≡ c.args.reader.now.lines = c.line_number-line.ensures in
+    let end = c.in_ok-print_answer.ensures ∙ ap (λ (i : ℕ). string_bytes c.take_turn.new.out ++ answer_line i a c.resting.result) n in
     record {
-      line = (turn_line s t (ahead c.args.reader.now) c.args.reader.now.lines c.args.reader.now.words c.args.pass.number c.resting.result c.in-Ok.call a x.0 (string_bytes c.args.out.now) (string_bytes c.take-turn.new.out) (string_bytes c.print-answer.new.out) c.requires.0 c.requires.1 c.in-Ok.ensures.call x.1.0 c.resting.ensures x.1.1 end, x.1.2 ∙ c.requires.1);
+      line = (turn_line s t (ahead c.args.reader.now) c.args.reader.now.lines c.args.reader.now.words c.args.pass.number c.resting.result c.in-Ok.call a x.0 (string_bytes c.args.out.now) (string_bytes c.take_turn.new.out) (string_bytes c.print_answer.new.out) c.requires.0 c.requires.1 c.in-Ok.ensures.call x.1.0 c.resting.ensures x.1.1 end, x.1.2 ∙ c.requires.1);
       stays = c.in-Ok.ensures.stays;
     }
 
-pub returns-in-ok-refuse : goal.returns-in-ok-refuse
-returns-in-ok-refuse g c =
+pub returns-in_ok-refuse : goal.returns-in_ok-refuse
+returns-in_ok-refuse g c =
     let s = state g.R.Register.meaning c.args.session.now in
-    let n : c.line-number-line.result ≡ c.args.reader.now.lines = c.line-number-line.ensures in
-    let end = c.in-ok-refuse.ensures ∙ ap (λ (i : ℕ). string_bytes c.args.out.now ++ refused_line i c.in-Err.fault) n in
+    let n : c.line_number-line.result ≡ c.args.reader.now.lines = c.line_number-line.ensures in
+    let end = c.in_ok-refuse.ensures ∙ ap (λ (i : ℕ). string_bytes c.args.out.now ++ refused_line i c.in-Err.fault) n in
     record {
       line = (unread_line s s (ahead c.args.reader.now) c.args.reader.now.lines c.args.reader.now.words c.in-Err.fault (string_bytes c.args.out.now) (string_bytes c.refuse.new.out) c.requires.0 c.in-Err.ensures.call refl end, c.requires.1);
       stays = c.in-Err.ensures.stays;

@@ -6,6 +6,6 @@ use Rattle.runs.proofs.run.run_script.Goals as goal
 pub returns : goal.returns
 returns c =
     let short : length c.args.script.now ≤ 65536 = search rules in
-    IfOk-weaker c.run-calls.result _ _
-    (λ _ h. script_run c.args.script.now c.new-reader.result c.header.new.reader c.run-map.new.reader _ _ (string_bytes c.args.out.now) (string_bytes c.run-map.new.out) (string_bytes c.run-calls.new.out) short c.new-reader.ensures c.if-not-header.ensures c.in-ok-map.ensures c.into-register.ensures h)
-    c.run-calls.ensures
+    IfOk-weaker c.run_calls.result _ _
+    (λ _ h. script_run c.args.script.now c.new-reader.result c.header.new.reader c.run_map.new.reader _ _ (string_bytes c.args.out.now) (string_bytes c.run_map.new.out) (string_bytes c.run_calls.new.out) short c.new-reader.ensures c.if-not-header.ensures c.in_ok-map.ensures c.into_register.ensures h)
+    c.run_calls.ensures

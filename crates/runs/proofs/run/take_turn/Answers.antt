@@ -10,5 +10,5 @@ returns g c =
     let x = c.perform-answer.ensures.performed in
     let added = all_added x.trades x.told c.perform-answer.new.log x.trades_noted c.if-log.false in
     let empty = ap (λ (t : TradeText). string_bytes t.text) x.call_noted ∙ c.new.ensures.bytes in
-    let text : c.as-str.result.now ≡ trade_lines x.trades = c.as-str.ensures.value ∙ added.1 ∙ ap (λ (t : List ℕ). t ++ trade_lines x.trades) empty in
-    (x.trades, (x.turn, c.in-ok-push-str.ensures.bytes ∙ ap (λ (t : List ℕ). string_bytes c.args.out.now ++ t) text, c.perform-answer.ensures.pass))
+    let text : c.as_str.result.now ≡ trade_lines x.trades = c.as_str.ensures.value ∙ added.1 ∙ ap (λ (t : List ℕ). t ++ trade_lines x.trades) empty in
+    (x.trades, (x.turn, c.in_ok-push_str.ensures.bytes ∙ ap (λ (t : List ℕ). string_bytes c.args.out.now ++ t) text, c.perform-answer.ensures.pass))

@@ -2,19 +2,19 @@ use Rattle.std.proofs.Common.{Ok, Err, refl, ap, ◌∙◌, inr, rules}
 use Rattle.std.proofs.lemmas.Result.{err_from_is_err_and}
 use Rattle.script.proofs.lines.map_line.Goals as goal
 
-pub returns-in-err-connect : goal.returns-in-err-connect
-returns-in-err-connect c =
-    let below = c.in-err-connect.ensures in
-    let e = err_from_is_err_and c.from-residual-in-err-connect.result c.from-residual-in-err-connect.ensures.1 in
+pub returns-in_err-connect : goal.returns-in_err-connect
+returns-in_err-connect c =
+    let below = c.in_err-connect.ensures in
+    let e = err_from_is_err_and c.from_residual-in_err-connect.result c.from_residual-in_err-connect.ensures.1 in
     record {
-      line = inr (c.in-ok-counts.counts, (c.in-ok-counts.ensures.counts, record { answer = Err c.in-err-connect.field-0.0; as_told = below.answer; outcome = e.1 ∙ ap Err e.2; after = below.after }));
+      line = inr (c.in_ok-counts.counts, (c.in_ok-counts.ensures.counts, record { answer = Err c.in_err-connect.field-0.0; as_told = below.answer; outcome = e.1 ∙ ap Err e.2; after = below.after }));
       stays = search rules;
     }
 
 pub returns : goal.returns
 returns c =
-    let below = c.in-ok-connect.ensures in
+    let below = c.in_ok-connect.ensures in
     record {
-      line = inr (c.in-ok-counts.counts, (c.in-ok-counts.ensures.counts, record { answer = Ok tt; as_told = below.answer; outcome = refl; after = below.after }));
+      line = inr (c.in_ok-counts.counts, (c.in_ok-counts.ensures.counts, record { answer = Ok tt; as_told = below.answer; outcome = refl; after = below.after }));
       stays = search rules;
     }

@@ -2,19 +2,19 @@ use Rattle.std.proofs.Common.{Ok, Err, refl, ap, ◌∙◌, inr, rules}
 use Rattle.std.proofs.lemmas.Result.{err_from_is_err_and}
 use Rattle.script.proofs.lines.notice_line.Goals as goal
 
-pub returns-in-err-notice : goal.returns-in-err-notice
-returns-in-err-notice g c =
-    let below = c.in-err-notice.ensures in
-    let e = err_from_is_err_and c.from-residual-in-err-notice.result c.from-residual-in-err-notice.ensures.1 in
+pub returns-in_err-notice : goal.returns-in_err-notice
+returns-in_err-notice g c =
+    let below = c.in_err-notice.ensures in
+    let e = err_from_is_err_and c.from_residual-in_err-notice.result c.from_residual-in_err-notice.ensures.1 in
     record {
-      line = inr (c.in-ok-counts.counts, (c.in-ok-counts.ensures.counts, record { answer = Err c.in-err-notice.field-0.0; as_told = below.answer; outcome = e.1 ∙ ap Err e.2; after = below.after }));
+      line = inr (c.in_ok-counts.counts, (c.in_ok-counts.ensures.counts, record { answer = Err c.in_err-notice.field-0.0; as_told = below.answer; outcome = e.1 ∙ ap Err e.2; after = below.after }));
       stays = search rules;
     }
 
 pub returns : goal.returns
 returns g c =
-    let below = c.in-ok-notice.ensures in
+    let below = c.in_ok-notice.ensures in
     record {
-      line = inr (c.in-ok-counts.counts, (c.in-ok-counts.ensures.counts, record { answer = Ok tt; as_told = below.answer; outcome = refl; after = below.after }));
+      line = inr (c.in_ok-counts.counts, (c.in_ok-counts.ensures.counts, record { answer = Ok tt; as_told = below.answer; outcome = refl; after = below.after }));
       stays = search rules;
     }

@@ -5,4 +5,4 @@ use Rattle.std.proofs.lemmas.Bool.Decides.{Decides-eqb}
 
 pub returns-in-Some : goal.returns-in-Some
 returns-in-Some c =
-    header_read c.args.reader.now c.next-line.new.self c.in-Some.line.now c.eq.result c.if-not-next-line.ensures c.in-Some.ensures (slice_eq-Decides Decides-eqb _ _ _ c.eq.ensures)
+    header_read c.args.reader.now c.next_line.new.self c.in-Some.line.now c.eq.result c.if-not-next_line.ensures c.in-Some.ensures (slice_eq-Decides Decides-eqb _ _ _ c.eq.ensures)

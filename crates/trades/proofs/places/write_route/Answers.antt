@@ -6,6 +6,6 @@ use Rattle.trades.proofs.places.write_route.Goals as goal
 pub returns-then-n-places : goal.returns-then-n-places
 returns-then-n-places c =
     record {
-      filled = λ _. written _ c.areas-areas.result.now _ c.args.places.now c.copy-from-slice.ensures.after c.areas-areas.ensures.listed;
+      filled = λ _. written _ c.areas-areas.result.now _ c.args.places.now c.copy_from_slice.ensures.after c.areas-areas.ensures.listed;
       too_few = λ l. absurd (omega (arith, c.if-n-places.true, l, ap length c.areas-areas.ensures.listed));
     }

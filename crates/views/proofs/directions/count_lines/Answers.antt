@@ -11,4 +11,4 @@ pub loop-from-preserved : goal.loop-from-preserved
 loop-from-preserved g c =
     let f = lines_from (g.R.Register.meaning c.args.register.now) c.args.contract in
     let i = c.loop-from.invariant in
-    (omega (arith, c.count-from-count.ensures.count, below_length f c.loop-from.from, i.0), omega (arith, c.count-from-count.ensures.few, i.1))
+    (omega (arith, c.count_from-count.ensures.count, below_length f c.loop-from.from, i.0), omega (arith, c.count_from-count.ensures.few, i.1))

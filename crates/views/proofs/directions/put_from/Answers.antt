@@ -7,7 +7,7 @@ use Rattle.views.specs.Ranks.{capacity_before}
 use Rattle.views.proofs.Belows.{below_none, below_fits, below_line, below_same}
 use Rattle.views.proofs.Holding.{Added, added_none, added_one, added_as}
 use Rattle.views.proofs.directions.put_from.Goals as goal
-use Rattle.views.proofs.directions.put_from.Goals.{in-Some, in-default}
+use Rattle.views.proofs.directions.put_from.Goals.{in-Some, in_default}
 
 pub loop-to-init : goal.loop-to-init
 loop-to-init g c =
@@ -26,11 +26,11 @@ loop-to-preserved g c =
     let b = c.loop-to.to in
     let lent = c.args.lines.now in
     let len = c.args.len in
-    elim c.match-line-of.branch [
+    elim c.match-line_of.branch [
       | in-Some w ↦ let x = w.in-Some.line in
-          added_as capacity_before lent len (x ∷ each_below b f) (each_below (b + 1) f) w.put-len.new.lines c.match-line-of.lines w.put-len.result c.match-line-of.len (below_line f b x w.in-Some.ensures) w.lines-is w.len-is
+          added_as capacity_before lent len (x ∷ each_below b f) (each_below (b + 1) f) w.put-len.new.lines c.match-line_of.lines w.put-len.result c.match-line_of.len (below_line f b x w.in-Some.ensures) w.lines-is w.len-is
           (added_one capacity_before lent len (each_below b f) c.loop-to.lines w.put-len.new.lines c.loop-to.len w.put-len.result x w.put-len.ensures.count w.put-len.ensures.held c.loop-to.invariant)
-      | in-default w ↦ added_as capacity_before lent len (each_below b f) (each_below (b + 1) f) c.loop-to.lines c.match-line-of.lines c.loop-to.len c.match-line-of.len (below_same f b w.in-default.ensures) w.lines-is w.len-is c.loop-to.invariant
+      | in_default w ↦ added_as capacity_before lent len (each_below b f) (each_below (b + 1) f) c.loop-to.lines c.match-line_of.lines c.loop-to.len c.match-line_of.len (below_same f b w.in_default.ensures) w.lines-is w.len-is c.loop-to.invariant
     ]
 
 pub returns : goal.returns

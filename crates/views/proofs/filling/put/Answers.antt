@@ -12,5 +12,5 @@ returns g c =
     let counts = took (drop len lines) len n (sym c.in-Ok.ensures.told) in
     record {
       count = counts.0;
-      held = held_more g.T.Ranked.precedes c.args.x lines c.put-in.new.lines len n counts.0 c.requires c.put-in.ensures.ranked (c.in-Ok.ensures.law n refl);
+      held = held_more g.T.Ranked.precedes c.args.x lines c.put_in.new.lines len n counts.0 c.requires c.put_in.ensures.ranked (c.in-Ok.ensures.law n refl);
     }

@@ -21,25 +21,25 @@ lent_lines m n os ps c a side xs e u h = subst (λ (ls : List Order). LinesOf n 
 one_book : (s : State) (c a : ℕ) (side : Side) (xs ys : List BookLine) → BookLines s c a side xs → BookLines s c a side ys → xs ≡ ys
 one_book s c a side = one_list (Shows s.capacity s.book c a side) (one_shown s.capacity s.book c a side) (length s.book)
 
-pub returns-in-err-check-view-in : goal.returns-in-err-check-view-in
-returns-in-err-check-view-in g c =
+pub returns-in_err-check_view_in : goal.returns-in_err-check_view_in
+returns-in_err-check_view_in g c =
     let s : State = state g.R.Register.meaning c.args.session.now in
     let k = c.args.contract in
     let a = c.args.area in
     let side = c.args.side in
-    let p = err_from_is_err_and c.from-residual.result c.from-residual.ensures.1 in
-    let r = by_test book_before book_ordered (area_tests s k a) (BookLines s k a side) (one_book s k a side) c.args.lines.now c.from-residual.result _ (p.1 ∙ ap Err p.2) c.in-err-check-view-in.ensures in
+    let p = err_from_is_err_and c.from_residual.result c.from_residual.ensures.1 in
+    let r = by_test book_before book_ordered (area_tests s k a) (BookLines s k a side) (one_book s k a side) c.args.lines.now c.from_residual.result _ (p.1 ∙ ap Err p.2) c.in_err-check_view_in.ensures in
     record { view = r.0; only = r.1; ranks = as_ranked s k a side }
 
-pub returns-then-lines-count-lines : goal.returns-then-lines-count-lines
-returns-then-lines-count-lines g c =
+pub returns-then-lines-count_lines : goal.returns-then-lines-count_lines
+returns-then-lines-count_lines g c =
     let s : State = state g.R.Register.meaning c.args.session.now in
     let k = c.args.contract in
     let a = c.args.area in
     let side = c.args.side in
-    let n = c.count-lines.ensures in
+    let n = c.count_lines.ensures in
     let here = lent_lines _ s.capacity _ s.book k a side n.0 c.register-register.ensures c.book-book.ensures n.1 in
-    let r = for_want book_before book_ordered (area_tests s k a) (BookLines s k a side) (one_book s k a side) c.args.lines.now c.in-ok-check-view-in.ensures (n.0, here, omega (arith, n.2, c.if-lines-count-lines.true)) in
+    let r = for_want book_before book_ordered (area_tests s k a) (BookLines s k a side) (one_book s k a side) c.args.lines.now c.in_ok-check_view_in.ensures (n.0, here, omega (arith, n.2, c.if-lines-count_lines.true)) in
     record { view = r.0; only = r.1; ranks = as_ranked s k a side }
 
 pub returns : goal.returns
@@ -48,7 +48,7 @@ returns g c =
     let k = c.args.contract in
     let a = c.args.area in
     let side = c.args.side in
-    let n = c.put-lines.ensures in
+    let n = c.put_lines.ensures in
     let here = lent_lines _ s.capacity _ s.book k a side n.0 c.register-register.ensures c.book-book.ensures n.1 in
-    let r = by_lines book_before book_ordered (area_tests s k a) (BookLines s k a side) (one_book s k a side) c.args.lines.now c.put-lines.result c.put-lines.new.lines c.in-ok-check-view-in.ensures (n.0, here, n.2, n.3) in
+    let r = by_lines book_before book_ordered (area_tests s k a) (BookLines s k a side) (one_book s k a side) c.args.lines.now c.put_lines.result c.put_lines.new.lines c.in_ok-check_view_in.ensures (n.0, here, n.2, n.3) in
     record { view = r.0; only = r.1; ranks = as_ranked s k a side }

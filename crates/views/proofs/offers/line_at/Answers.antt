@@ -9,8 +9,8 @@ use Rattle.views.specs.Books.{Wanted}
 use Rattle.views.proofs.Showing.{not_wanted, no_path, shown}
 use Rattle.views.proofs.offers.line_at.Goals as goal
 
-pub returns-in-default : goal.returns-in-default
-returns-in-default g c = λ _. none_past (orders c.args.book.now) c.args.place c.in-default.ensures c.requires.place
+pub returns-in_default : goal.returns-in_default
+returns-in_default g c = λ _. none_past (orders c.args.book.now) c.args.place c.in_default.ensures c.requires.place
 
 pub returns-then-not-wanted : goal.returns-then-not-wanted
 returns-then-not-wanted g c =
@@ -19,15 +19,15 @@ returns-then-not-wanted g c =
     not_wanted (g.R.Register.meaning c.args.register.now) (orders c.args.book.now) q.contract q.area q.side c.args.place o c.in-Some.ensures
     (not_from_Decides {P = Wanted q.contract q.side o} c.wanted.result c.wanted.ensures c.if-not-wanted.true)
 
-pub returns-in-default-route : goal.returns-in-default-route
-returns-in-default-route g c =
+pub returns-in_default-route : goal.returns-in_default-route
+returns-in_default-route g c =
     let q = c.args.asked in
     no_path (g.R.Register.meaning c.args.register.now) (orders c.args.book.now) q.contract q.area q.side c.args.place c.in-Some.order c.in-Some.ensures
-    (opens c.args.grid.now) c.requires.grid c.ends-from.result c.ends-from.ensures c.in-default-route.ensures.answer
+    (opens c.args.grid.now) c.requires.grid c.ends-from.result c.ends-from.ensures c.in_default-route.ensures.answer
 
 pub returns : goal.returns
 returns g c =
     let q = c.args.asked in
     shown (g.R.Register.meaning c.args.register.now) (orders c.args.book.now) q.contract q.area q.side c.args.place c.in-Some.order c.in-Some.ensures
     (opens c.args.grid.now) c.requires.grid c.ends-from.result c.ends-from.ensures
-    _ _ (listed c.in-Some-route.route) (search rules) (c.wanted.ensures.0 c.if-not-wanted.false) c.in-Some-route.ensures.answer c.least-along-least.ensures.open-route
+    _ _ (listed c.in-Some-route.route) (search rules) (c.wanted.ensures.0 c.if-not-wanted.false) c.in-Some-route.ensures.answer c.least_along-least.ensures.open_route

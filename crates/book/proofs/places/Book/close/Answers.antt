@@ -9,8 +9,8 @@ use Rattle.book.proofs.Fronts.{at_end}
 use Rattle.book.proofs.places.Book.close.Goals as goal
 use Rattle.book.proofs.places.Book.close.Goals.{then-row-contract, else-row-contract}
 
-pub overflow-add-gone : goal.overflow-add-gone
-overflow-add-gone c =
+pub overflow_add-gone : goal.overflow_add-gone
+overflow_add-gone c =
     let b = c.args.self.now in
     let few = count_few (of_contract c.args.contract) (orders b) c.loop-i.i in
     omega (arith, c.loop-i.invariant.1, c.len-n.ensures.count, c.len-n.ensures.room)

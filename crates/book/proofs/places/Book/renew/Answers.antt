@@ -6,7 +6,7 @@ use Rattle.book.specs.Trades.{renewable}
 use Rattle.book.proofs.Filling.{late_yes, late_no, apart, some_is, none_is}
 use Rattle.book.proofs.Fronts.{at_end}
 use Rattle.book.proofs.places.Book.renew.Goals as goal
-use Rattle.book.proofs.places.Book.renew.Goals.{in-Some, in-default}
+use Rattle.book.proofs.places.Book.renew.Goals.{in-Some, in_default}
 
 pub loop-i-init : goal.loop-i-init
 loop-i-init c = c.showing-left.ensures ∙ sym (append-nil (filter shows (orders c.args.self.now)))
@@ -21,7 +21,7 @@ loop-i-preserved c =
           let y = some_is _ _ _ w.in-Some.ensures in
           ap orders w.left-is ∙ w.append.ensures.after ∙ ap (appended (orders c.loop-i.left)) (w.row.ensures ∙ y.1)
           ∙ late_yes shows renewable apart next_slice b.rows b.len c.loop-i.i _ _ h room c.loop-i.invariant y.0
-      | in-default w ↦ ap orders w.left-is ∙ late_no shows renewable next_slice b.rows b.len c.loop-i.i _ _ h c.loop-i.invariant (none_is _ _ w.in-default.ensures)
+      | in_default w ↦ ap orders w.left-is ∙ late_no shows renewable next_slice b.rows b.len c.loop-i.i _ _ h c.loop-i.invariant (none_is _ _ w.in_default.ensures)
     ]
 
 pub returns : goal.returns

@@ -6,24 +6,24 @@ use Rattle.capacity.specs.Shapes.{kept_of}
 use Rattle.capacity.proofs.Layers.{asked_some, asked_known, atc_bounds}
 use Rattle.capacity.proofs.reserve.ReserveRegister.atc.Goals as goal
 
-pub overflow-add-held : goal.overflow-add-held
-overflow-add-held g c =
+pub overflow_add-held : goal.overflow_add-held
+overflow_add-held g c =
     let m = g.R.Register.meaning c.args.self.now.below in
     let s = g.R.Register.sound c.args.self.now.below in
     let e = asked_some m c.args.contract c.args.from c.args.to _ _ c.in-Some-held.ensures in
     let h = s.held_range c.args.contract c.args.from c.args.to in
     omega arith
 
-pub overflow-sub-more : goal.overflow-sub-more
-overflow-sub-more g c =
+pub overflow_sub-more : goal.overflow_sub-more
+overflow_sub-more g c =
     let m = g.R.Register.meaning c.args.self.now.below in
     let s = g.R.Register.sound c.args.self.now.below in
     let e = asked_some m c.args.contract c.args.from c.args.to _ _ c.in-Some-held.ensures in
     let h = s.held_range c.args.contract c.args.from c.args.to in
     omega arith
 
-pub overflow-sub-result : goal.overflow-sub-result
-overflow-sub-result g c =
+pub overflow_sub-result : goal.overflow_sub-result
+overflow_sub-result g c =
     let m = g.R.Register.meaning c.args.self.now.below in
     let s = g.R.Register.sound c.args.self.now.below in
     let e = asked_some m c.args.contract c.args.from c.args.to _ _ c.in-Some-held.ensures in

@@ -10,12 +10,12 @@ use Rattle.capacity.proofs.Passes.{answered_passes, passes_answered, passes_resu
 use Rattle.capacity.proofs.Layers.{passes_granted, granted_passes, granted_below}
 use Rattle.capacity.proofs.reserve.ReserveRegister.take.Goals as goal
 
-pub returns-in-err-check-take : goal.returns-in-err-check-take
-returns-in-err-check-take g c =
+pub returns-in_err-check_take : goal.returns-in_err-check_take
+returns-in_err-check_take g c =
     let n = reserved (g.R.Register.meaning c.args.self.now.below) (kept_of c.args.self.now.wishes) in
     let ts = take_tests n c.args.contract c.args.from c.args.to c.args.quantity in
-    let p = err_from_is_err_and c.from-residual.result c.from-residual.ensures.1 in
-    let e = c.in-err-check-take.ensures n c.atc-flow.ensures in
+    let p = err_from_is_err_and c.from_residual.result c.from_residual.ensures.1 in
+    let e = c.in_err-check_take.ensures n c.atc-flow.ensures in
     record { answer = ap (said told) (p.1 ∙ ap Err p.2) ∙ e; after = refused_resulting ts _ n _ e }
 
 pub returns : goal.returns
@@ -27,7 +27,7 @@ returns g c =
     let x = c.args.from in
     let y = c.args.to in
     let q = c.args.quantity in
-    let e = c.in-ok-check-take.ensures n c.atc-flow.ensures in
+    let e = c.in_ok-check_take.ensures n c.atc-flow.ensures in
     let above = answered_passes (take_tests n k x y q) e in
     let below = granted_passes m k x y q (granted_below m w (g.R.Register.sound c.args.self.now.below) k x y q (passes_granted n k x y q above)) in
     record {

@@ -5,8 +5,8 @@ use Rattle.capacity.proofs.Lists.{get_d_same}
 use Rattle.capacity.proofs.Filled.{fresh_is}
 use Rattle.capacity.proofs.table.FullTable.new.Goals as goal
 
-pub invariant-of-result : goal.invariant-of-result
-invariant-of-result c = (λ i. omega (arith, get_d_same {X = ℕ} 6144 i 0), (λ i. omega (arith, get_d_same {X = ℕ} 6144 i 0), (λ i. omega (arith, get_d_same {X = ℕ} 6144 i 0), tt)))
+pub invariant_of-result : goal.invariant_of-result
+invariant_of-result c = record { few_ntc = λ i. omega (arith, get_d_same {X = ℕ} 6144 i 0); few_aac = λ i. omega (arith, get_d_same {X = ℕ} 6144 i 0); few_used = λ i. omega (arith, get_d_same {X = ℕ} 6144 i 0) }
 
 pub returns : goal.returns
 returns c = fresh_is (linked c.links.result.joined) 6144 ∙ ap fresh c.links.ensures

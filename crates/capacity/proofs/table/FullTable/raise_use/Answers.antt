@@ -5,8 +5,8 @@ use Rattle.capacity.proofs.Lists.{few_set}
 use Rattle.capacity.proofs.Filled.{on_known, on_back, take_bound, full_taken}
 use Rattle.capacity.proofs.table.FullTable.raise_use.Goals as goal
 
-pub invariant-of-self : goal.invariant-of-self
-invariant-of-self c =
+pub invariant_of-self : goal.invariant_of-self
+invariant_of-self c =
     let t = c.args.self.now in
     let g = c.requires.granted in
     let o = on_known (linked t.links.joined) c.args.contract c.args.from c.args.to g.contract g.joined in
@@ -14,7 +14,7 @@ invariant-of-self c =
     let k = take_bound (linked t.links.joined) t.ntc t.aac t.used t.few_ntc t.few_aac c.args.contract c.args.from c.args.to c.args.quantity c.place-i.result c.place-j.result o f c.place-i.ensures c.place-j.ensures g.flows in
     let u = t.few_used c.place-i.result in
     let v = t.few_used c.place-j.result in
-    (t.few_ntc, (t.few_aac, (few_set _ 199998 _ _ (few_set _ 199998 _ _ t.few_used (omega arith)) (omega arith), tt)))
+    record { few_ntc = t.few_ntc; few_aac = t.few_aac; few_used = few_set _ 199998 _ _ (few_set _ 199998 _ _ t.few_used (omega arith)) (omega arith) }
 
 pub returns : goal.returns
 returns c =

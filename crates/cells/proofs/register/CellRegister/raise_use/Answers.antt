@@ -5,8 +5,8 @@ use Rattle.cells.specs.Shapes.{in_use}
 use Rattle.cells.proofs.Held.{takes, noted_below, celled_taken}
 use Rattle.cells.proofs.register.CellRegister.raise_use.Goals as goal
 
-pub invariant-of-store : goal.invariant-of-store
-invariant-of-store c =
+pub invariant_of-store : goal.invariant_of-store
+invariant_of-store c =
     let r = c.args.self.now in
     let s = c.side-there.ensures.small in
     let t = c.side-back.ensures.small in

@@ -3,4 +3,4 @@ use Rattle.std.proofs.Common.{rules}
 use Rattle.lines.proofs.reader.Reader.link.Goals as goal
 
 pub returns : goal.returns
-returns c = record { link = (c.in-ok-numbers.numbers, (c.in-ok-numbers.ensures.numbers, cc)); stays = search rules }
+returns c = record { link = (c.in_ok-numbers.numbers, (c.in_ok-numbers.ensures.numbers, cc)); stays = search rules }

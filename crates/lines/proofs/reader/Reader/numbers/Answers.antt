@@ -13,18 +13,18 @@ pub loop-i-preserved : goal.loop-i-preserved
 loop-i-preserved g c =
     let lu : c.loop-i.i < length c.args.fields = search rules in
     let lc : c.loop-i.i < length c.loop-i.numbers = omega arith in
-    let one = c.in-ok-numbers.ensures in
-    let z : ℤ = c.in-ok-numbers.field-0 in
+    let one = c.in_ok-numbers.ensures in
+    let z : ℤ = c.in_ok-numbers.field-0 in
     let same : to_z w32 (of_z w32 z) ≡ z = to_z-of_z w32 z (search rules) in
     let so = one_more c.args.fields _ (ahead c.loop-i.self) _ c.loop-i.numbers c.loop-i.i _ _ lu lc c.loop-i.invariant.0 one.2 in
     (subst (λ (y : ℤ). Read-so-far c.args.fields (ahead c.args.self.now) (c.loop-i.i + 1) (ahead c.number.new.self) (set c.loop-i.numbers c.loop-i.i y)) (sym same) so, search rules, omega arith, omega (arith, one_less _ (ahead c.loop-i.self) (ahead c.number.new.self) _ one.2), search rules)
 
-pub returns-in-err-numbers : goal.returns-in-err-numbers
-returns-in-err-numbers g c =
+pub returns-in_err-numbers : goal.returns-in_err-numbers
+returns-in_err-numbers g c =
     let lu : c.loop-i.i < length c.args.fields = search rules in
     let all : length (ahead c.args.self.now) ≡ length c.args.fields = search rules in
-    let p = c.in-err-numbers.ensures in
-    let e = err_from_is_err_and c.from-residual.result c.from-residual.ensures.1 in
+    let p = c.in_err-numbers.ensures in
+    let e = err_from_is_err_and c.from_residual.result c.from_residual.ensures.1 in
     record {
       numbers = rw (e.1, e.2) (stopped c.args.fields _ (ahead c.loop-i.self) c.loop-i.numbers c.loop-i.i _ _ _ _ lu all c.loop-i.invariant.3 c.loop-i.invariant.2 c.loop-i.invariant.0 p.1);
       stays = search rules;

@@ -17,10 +17,10 @@ returns-then-from-ge-AREAS c = record { answer = λ xs h. outside xs h; only = �
         let l = path_areas (Leads c.args.self.now) c.args.from c.args.to xs h in
         elim c.then-from-ge-AREAS.either [ inl g ↦ omega (arith, l.0) | inr g ↦ omega (arith, l.1, g.1) ]
 
-pub returns-then-levels-from-eq-NO-PATH : goal.returns-then-levels-from-eq-NO-PATH
-returns-then-levels-from-eq-NO-PATH c =
-    let s = size_found (Leads c.args.self.now) c.args.to c.levels-to-levels.result c.levels-to-levels.ensures c.args.from in
-    let n = s.none c.if-levels-from-eq-NO-PATH.true in
+pub returns-then-levels-from-eq-NO_PATH : goal.returns-then-levels-from-eq-NO_PATH
+returns-then-levels-from-eq-NO_PATH c =
+    let s = size_found (Leads c.args.self.now) c.args.to c.levels_to-levels.result c.levels_to-levels.ensures c.args.from in
+    let n = s.none c.if-levels-from-eq-NO_PATH.true in
     record { answer = n; only = λ xs h. n xs h.0; alike = alike; example = diamond.example }
 
 pub returns : goal.returns

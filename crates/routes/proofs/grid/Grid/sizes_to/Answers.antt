@@ -11,8 +11,8 @@ use Rattle.routes.proofs.grid.Grid.sizes_to.Goals as goal
 pub returns-then-to-lt-AREAS : goal.returns-then-to-lt-AREAS
 returns-then-to-lt-AREAS c =
     let O = Leads c.args.self.now in
-    let d = c.levels-to.result in
-    let s : (a : ℕ) → Size O a c.args.to (lv d a) = size_found O c.args.to d c.levels-to.ensures in
+    let d = c.levels_to.result in
+    let s : (a : ℕ) → Size O a c.args.to (lv d a) = size_found O c.args.to d c.levels_to.ensures in
     record { sizes = s; reach = λ a. size_reach O a c.args.to (lv d a) (s a); laws = λ f. reaching (Holds f) }
 
 pub returns-else-to-lt-AREAS : goal.returns-else-to-lt-AREAS

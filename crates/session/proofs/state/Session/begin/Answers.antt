@@ -8,8 +8,8 @@ use Rattle.session.specs.State.{State}
 use Rattle.session.proofs.Flags.{none_closed}
 use Rattle.session.proofs.state.Session.begin.Goals as goal
 
-pub invariant-of-session : goal.invariant-of-session
-invariant-of-session g c = (∣ subst Orderly (sym c.new.ensures) (record { fit = tt; distinct = tt }) ∣₁, tt)
+pub invariant_of-session : goal.invariant_of-session
+invariant_of-session g c = (∣ subst Orderly (sym c.new.ensures) (record { fit = tt; distinct = tt }) ∣₁, tt)
 
 pub returns : goal.returns
 returns g c =

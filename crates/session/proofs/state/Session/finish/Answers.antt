@@ -2,5 +2,5 @@
 use mathlib.Core.Logic.{∥∥₁_map}
 use Rattle.session.proofs.state.Session.finish.Goals as goal
 
-pub invariant-of-self : goal.invariant-of-self
-invariant-of-self g c = (∥∥₁_map c.args.self.now.orderly c.rest.ensures.orderly, tt)
+pub invariant_of-self : goal.invariant_of-self
+invariant_of-self g c = (∥∥₁_map c.args.self.now.orderly c.rest.ensures.orderly, tt)

@@ -6,8 +6,8 @@ use Rattle.session.proofs.Falling.{total_open, deal_falls}
 use Rattle.session.proofs.Running.{traded_so, done_so, pass_so, areas_few, areas_are, trades_on, ends_so, refused_so}
 use Rattle.session.proofs.state.Session.finish_round.Goals as goal
 
-pub slice-bounds-route-end : goal.slice-bounds-route-end
-slice-bounds-route-end g c =
+pub slice_bounds-route-end : goal.slice_bounds-route-end
+slice_bounds-route-end g c =
     let s = state g.R.Register.meaning c.loop-made.self in
     let t = state g.R.Register.meaning c.step.new.self in
     let e : c.in-Ok.made ≡ Traded c.in-Traded.trade c.in-Traded.next = cc in

@@ -11,39 +11,39 @@ use Rattle.session.specs.Calls.{pass_test, closed_test, raised, request_tests, i
 use Rattle.session.proofs.Deciding.{refused_on, passed_on, by_register_refused, by_register_passed}
 use Rattle.session.proofs.state.Session.grant.Goals as goal
 
-pub returns-in-err-check-quiet : goal.returns-in-err-check-quiet
-returns-in-err-check-quiet g c =
+pub returns-in_err-check_quiet : goal.returns-in_err-check_quiet
+returns-in_err-check_quiet g c =
     let s : State = state g.R.Register.meaning c.args.self.now in
     let us = take_tests s.capacity c.args.contract c.args.from c.args.to c.args.quantity in
     let ts = request_tests s c.args.pass c.args.contract c.args.from c.args.to c.args.quantity in
-    let p = err_from_is_err_and c.from-residual.result c.from-residual.ensures.1 in
-    let e = refused_on (pass_test s c.args.pass ∷ []) (closed_test s c.args.contract ∷ raised registers us) _ c.in-err-check-quiet.ensures in
+    let p = err_from_is_err_and c.from_residual.result c.from_residual.ensures.1 in
+    let e = refused_on (pass_test s c.args.pass ∷ []) (closed_test s c.args.contract ∷ raised registers us) _ c.in_err-check_quiet.ensures in
     record { answer = ap (said told) (p.1 ∙ ap Err p.2) ∙ e; after = refused_resulting ts _ s _ e }
 
-pub returns-in-err-check-open : goal.returns-in-err-check-open
-returns-in-err-check-open g c =
+pub returns-in_err-check_open : goal.returns-in_err-check_open
+returns-in_err-check_open g c =
     let s : State = state g.R.Register.meaning c.args.self.now in
     let us = take_tests s.capacity c.args.contract c.args.from c.args.to c.args.quantity in
     let ts = request_tests s c.args.pass c.args.contract c.args.from c.args.to c.args.quantity in
-    let p = err_from_is_err_and c.from-residual-in-err-check-open.result c.from-residual-in-err-check-open.ensures.1 in
+    let p = err_from_is_err_and c.from_residual-in_err-check_open.result c.from_residual-in_err-check_open.ensures.1 in
     let e =
-    refused_on (closed_test s c.args.contract ∷ []) (raised registers us) _ c.in-err-check-open.ensures
-    ∙ passed_on (pass_test s c.args.pass ∷ []) (closed_test s c.args.contract ∷ raised registers us) c.in-ok-check-quiet.ensures
+    refused_on (closed_test s c.args.contract ∷ []) (raised registers us) _ c.in_err-check_open.ensures
+    ∙ passed_on (pass_test s c.args.pass ∷ []) (closed_test s c.args.contract ∷ raised registers us) c.in_ok-check_quiet.ensures
     in
     record { answer = ap (said told) (p.1 ∙ ap Err p.2) ∙ e; after = refused_resulting ts _ s _ e }
 
-pub returns-in-err-take : goal.returns-in-err-take
-returns-in-err-take g c =
+pub returns-in_err-take : goal.returns-in_err-take
+returns-in_err-take g c =
     let s : State = state g.R.Register.meaning c.args.self.now in
     let us = take_tests s.capacity c.args.contract c.args.from c.args.to c.args.quantity in
     let ts = request_tests s c.args.pass c.args.contract c.args.from c.args.to c.args.quantity in
-    let p = err_from_is_err_and c.from-residual-in-err-take.result c.from-residual-in-err-take.ensures.1 in
+    let p = err_from_is_err_and c.from_residual-in_err-take.result c.from_residual-in_err-take.ensures.1 in
     let e =
-    by_register_refused (pass_test s c.args.pass) (closed_test s c.args.contract) us _ c.in-ok-check-quiet.ensures
-    c.in-ok-check-open.ensures
-    c.in-err-take.ensures.answer
+    by_register_refused (pass_test s c.args.pass) (closed_test s c.args.contract) us _ c.in_ok-check_quiet.ensures
+    c.in_ok-check_open.ensures
+    c.in_err-take.ensures.answer
     in
-    let same = c.in-err-take.ensures.after ∙ sym (refused_resulting us _ s.capacity _ c.in-err-take.ensures.answer) in
+    let same = c.in_err-take.ensures.after ∙ sym (refused_resulting us _ s.capacity _ c.in_err-take.ensures.answer) in
     record {
       answer = ap (said told) (p.1 ∙ ap Err p.2) ∙ e;
       after =
@@ -58,11 +58,11 @@ returns g c =
     let ts = request_tests s c.args.pass c.args.contract c.args.from c.args.to c.args.quantity in
     let n = taken s.capacity c.args.contract c.args.from c.args.to c.args.quantity in
     let e =
-    by_register_passed (pass_test s c.args.pass) (closed_test s c.args.contract) us c.in-ok-check-quiet.ensures
-    c.in-ok-check-open.ensures
-    c.in-ok-take.ensures.answer
+    by_register_passed (pass_test s c.args.pass) (closed_test s c.args.contract) us c.in_ok-check_quiet.ensures
+    c.in_ok-check_open.ensures
+    c.in_ok-take.ensures.answer
     in
-    let done = c.in-ok-take.ensures.after ∙ sym (passes_resulting us s.capacity n (answered_passes us c.in-ok-take.ensures.answer)) in
+    let done = c.in_ok-take.ensures.after ∙ sym (passes_resulting us s.capacity n (answered_passes us c.in_ok-take.ensures.answer)) in
     record {
       answer = e;
       after = ap (in_batch s c.args.contract) done ∙ passes_resulting ts s (in_batch s c.args.contract n) (answered_passes ts e);

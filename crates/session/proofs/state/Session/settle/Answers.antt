@@ -8,8 +8,8 @@ use Rattle.session.specs.State.{State, state}
 use Rattle.session.proofs.Carrying.{deal_carries, by_order}
 use Rattle.session.proofs.state.Session.settle.Goals as goal
 
-pub invariant-of-self : goal.invariant-of-self
-invariant-of-self g c = (∥∥₁_map c.args.self.now.orderly c.trade.ensures.orderly, tt)
+pub invariant_of-self : goal.invariant_of-self
+invariant_of-self g c = (∥∥₁_map c.args.self.now.orderly c.trade.ensures.orderly, tt)
 
 pub returns : goal.returns
 returns g c =

@@ -11,8 +11,8 @@ pub returns-in-Some : goal.returns-in-Some
 returns-in-Some g c =
     let many : 16 ≤ length c.args.places.now = enough (state g.R.Register.meaning c.args.self.now) c.args.pass.number (length c.args.places.now) c.in-Ok.ensures.0 in
     let few : length (listed c.in-Some.deal.route) ≤ 16 = omega (arith, length-take c.in-Some.deal.route.len c.in-Some.deal.route.areas, c.in-Some.deal.route.fits) in
-    let filled : c.write-route.new.places ≡ listed c.in-Some.deal.route ++ drop (length (listed c.in-Some.deal.route)) c.args.places.now = c.write-route.ensures.filled (omega (arith, many, few)) in
-    let trades : Trades (state g.R.Register.meaning c.args.self.now) c.args.places.now c.in-Some.deal.trade c.write-route.new.places (state g.R.Register.meaning c.settle.new.self) =
+    let filled : c.write_route.new.places ≡ listed c.in-Some.deal.route ++ drop (length (listed c.in-Some.deal.route)) c.args.places.now = c.write_route.ensures.filled (omega (arith, many, few)) in
+    let trades : Trades (state g.R.Register.meaning c.args.self.now) c.args.places.now c.in-Some.deal.trade c.write_route.new.places (state g.R.Register.meaning c.settle.new.self) =
     record { round = c.in-Ok.round; under_way = c.in-Ok.ensures.1; route = listed c.in-Some.deal.route; deal = c.in-Some.ensures; places = filled; state = c.settle.ensures } in
     record { step = (c.in-Ok.ensures.0, trades); pass = refl; only = one_step (state g.R.Register.meaning c.args.self.now) c.args.pass.number c.args.places.now (Ok (Traded c.in-Some.deal.trade c.args.pass)) _ _ (c.in-Ok.ensures.0, trades) }
 

@@ -4,8 +4,8 @@ use mathlib.Core.Path.{fun_ext}
 use Rattle.capacity.proofs.Links.{none_linked, no_connectors}
 use Rattle.capacity.proofs.map.links.Links.none.Goals as goal
 
-pub invariant-of-result : goal.invariant-of-result
-invariant-of-result c = (sym (no_connectors _ (none_linked 256)), (omega arith, tt))
+pub invariant_of-result : goal.invariant_of-result
+invariant_of-result c = record { counted = sym (no_connectors _ (none_linked 256)); few = omega arith }
 
 pub returns : goal.returns
 returns c = fun_ext (λ a. fun_ext (λ b. none_linked 256 a b))

@@ -5,8 +5,8 @@ use Rattle.capacity.proofs.Lists.{few_set}
 use Rattle.capacity.proofs.Links.{kept_set}
 use Rattle.capacity.proofs.map.wishes.Wishes.keep.Goals as goal
 
-pub invariant-of-self : goal.invariant-of-self
-invariant-of-self c = (few_set c.args.self.now.figures 99999 _ c.args.figure c.args.self.now.few (omega arith), tt)
+pub invariant_of-self : goal.invariant_of-self
+invariant_of-self c = record { few = few_set c.args.self.now.figures 99999 _ c.args.figure c.args.self.now.few (omega arith) }
 
 pub returns : goal.returns
 returns c =

@@ -5,8 +5,8 @@ use Rattle.capacity.proofs.Lists.{get_d_same}
 use Rattle.capacity.proofs.Links.{none_kept}
 use Rattle.capacity.proofs.map.wishes.Wishes.none.Goals as goal
 
-pub invariant-of-result : goal.invariant-of-result
-invariant-of-result c = (λ i. omega (arith, get_d_same {X = ℕ} 256 i 0), tt)
+pub invariant_of-result : goal.invariant_of-result
+invariant_of-result c = record { few = λ i. omega (arith, get_d_same {X = ℕ} 256 i 0) }
 
 pub returns : goal.returns
 returns c = fun_ext (λ a. fun_ext (λ b. none_kept 256 a b))

@@ -7,10 +7,10 @@ use Rattle.capacity.proofs.Passes.{passes_answered, passes_resulting}
 use Rattle.capacity.proofs.Filled.{on_known, full_noticed, notice_passes}
 use Rattle.capacity.proofs.table.calls.FullTableRegister.notice.Goals as goal
 
-pub invariant-of-self : goal.invariant-of-self
-invariant-of-self c =
+pub invariant_of-self : goal.invariant_of-self
+invariant_of-self c =
     let t = c.args.self.now in
-    (few_set _ 99999 _ _ (few_set _ 99999 _ _ t.few_ntc (omega arith)) (omega arith), (few_set _ 99999 _ _ (few_set _ 99999 _ _ t.few_aac (omega arith)) (omega arith), (t.few_used, tt)))
+    record { few_ntc = few_set _ 99999 _ _ (few_set _ 99999 _ _ t.few_ntc (omega arith)) (omega arith); few_aac = few_set _ 99999 _ _ (few_set _ 99999 _ _ t.few_aac (omega arith)) (omega arith); few_used = t.few_used }
 
 pub returns : goal.returns
 returns c =

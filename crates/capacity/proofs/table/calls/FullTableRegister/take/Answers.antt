@@ -11,19 +11,19 @@ use Rattle.capacity.proofs.Passes.{answered_passes, passes_resulting, refused_re
 use Rattle.capacity.proofs.Layers.{passes_granted}
 use Rattle.capacity.proofs.table.calls.FullTableRegister.take.Goals as goal
 
-pub returns-in-err-check-take : goal.returns-in-err-check-take
-returns-in-err-check-take c =
+pub returns-in_err-check_take : goal.returns-in_err-check_take
+returns-in_err-check_take c =
     let m = table_of c.args.self.now in
     let ts = take_tests m c.args.contract c.args.from c.args.to c.args.quantity in
-    let p = err_from_is_err_and c.from-residual.result c.from-residual.ensures.1 in
-    let e = c.in-err-check-take.ensures m c.atc-flow.ensures in
+    let p = err_from_is_err_and c.from_residual.result c.from_residual.ensures.1 in
+    let e = c.in_err-check_take.ensures m c.atc-flow.ensures in
     record { answer = ap (said told) (p.1 ∙ ap Err p.2) ∙ e; after = refused_resulting ts _ m _ e }
 
-pub raise-use-requires : goal.raise-use-requires
-raise-use-requires c =
+pub raise_use-requires : goal.raise_use-requires
+raise_use-requires c =
     let m = table_of c.args.self.now in
     let ts = take_tests m c.args.contract c.args.from c.args.to c.args.quantity in
-    let e = c.in-ok-check-take.ensures m c.atc-flow.ensures in
+    let e = c.in_ok-check_take.ensures m c.atc-flow.ensures in
     let g = passes_granted m c.args.contract c.args.from c.args.to c.args.quantity (answered_passes ts e) in
     let a = linked_areas c.args.self.now.links.joined c.args.from c.args.to g.joined in
     record { granted = g; areas = (a.0, a.1) }
@@ -32,8 +32,8 @@ pub returns : goal.returns
 returns c =
     let m = table_of c.args.self.now in
     let ts = take_tests m c.args.contract c.args.from c.args.to c.args.quantity in
-    let e = c.in-ok-check-take.ensures m c.atc-flow.ensures in
+    let e = c.in_ok-check_take.ensures m c.atc-flow.ensures in
     record {
       answer = e;
-      after = c.raise-use.ensures ∙ passes_resulting ts m (taken m c.args.contract c.args.from c.args.to c.args.quantity) (answered_passes ts e);
+      after = c.raise_use.ensures ∙ passes_resulting ts m (taken m c.args.contract c.args.from c.args.to c.args.quantity) (answered_passes ts e);
     }
