@@ -2,7 +2,7 @@
 use Rattle.std.proofs.Common.{arith, ltb-false, ltb-true}
 use Rattle.numbers.proofs.Scanned.{lacks_short, signed_minus, signed_none}
 use Rattle.numbers.proofs.scan.split_minus.Goals as goal
-use Rattle.numbers.proofs.scan.split_minus.Goals.{in_default-via-then-s-lt1, in_default-via-else-s-lt1+in_default·}
+use Rattle.numbers.proofs.scan.split_minus.Goals.{in_default-via-then-s-lt1, in_default-via-else-s-lt1+in_default-1}
 
 pub returns-in-45 : goal.returns-in-45
 returns-in-45 c = signed_minus c.args.s.now (omega (arith, ltb-true, ltb-false)) (omega (arith, ltb-true, ltb-false))
@@ -10,5 +10,5 @@ returns-in-45 c = signed_minus c.args.s.now (omega (arith, ltb-true, ltb-false))
 pub returns-in_default : goal.returns-in_default
 returns-in_default c = elim c.in_default.branch [
   | in_default-via-then-s-lt1 w ↦ signed_none c.args.s.now (lacks_short 45 c.args.s.now (omega (arith, ltb-true, ltb-false)) (omega (arith, ltb-true, ltb-false)))
-  | in_default-via-else-s-lt1+in_default· w ↦ signed_none c.args.s.now (λ e. omega (arith, ltb-true, ltb-false))
+  | in_default-via-else-s-lt1+in_default-1 w ↦ signed_none c.args.s.now (λ e. omega (arith, ltb-true, ltb-false))
 ]

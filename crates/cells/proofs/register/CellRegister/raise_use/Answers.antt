@@ -11,7 +11,7 @@ invariant_of-store c =
     let s = c.side-there.ensures.small in
     let t = c.side-back.ensures.small in
     let g = takes r.map.now.links.joined (in_use r) (length r.cells.now - r.count) c.args.contract c.args.from c.args.to c.args.quantity c.side-there.result c.side-back.result c.requires c.side-there.ensures.value c.side-back.ensures.value s t in
-    ((s.0, s.1, omega (arith, g.bound)), ((t.0, t.1, omega arith), tt))
+    record { small_there = (s.0, s.1, omega (arith, g.bound)); small_back = (t.0, t.1, omega arith) }
 
 pub store-requires : goal.store-requires
 store-requires c =
