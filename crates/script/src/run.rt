@@ -23,7 +23,7 @@ fn header(reader: &mut Reader) -> bool
         return false;
     }
     match reader.line() {
-        Some(line) => line == b"CTM 1",
+        Some(line) => line == b"CTM 1".as_slice(),
         None => false,
     }
 }

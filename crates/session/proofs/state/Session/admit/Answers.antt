@@ -28,7 +28,7 @@ invariant_of-self g c =
     let s : State = state g.R.Register.meaning c.args.self.now in
     let k = entry_passed s c.args.pass c.args.entry.now c.in_ok-check_entry.ensures in
     let new = ap (λ (o : Order). place (numbered o.number) s.book) c.entered-order.ensures.order ∙ k.1 in
-    (∥∥₁_map c.args.self.now.orderly (λ o. c.append.ensures.orderly o (c.entered-order.ensures.fit k.0) new), tt)
+    record { orderly = ∥∥₁_map c.args.self.now.orderly (λ o. c.append.ensures.orderly o (c.entered-order.ensures.fit k.0) new) }
 
 pub returns-in_err-append : goal.returns-in_err-append
 returns-in_err-append g c =
@@ -51,7 +51,7 @@ invariant_of-self-2 g c =
     let s : State = state g.R.Register.meaning c.args.self.now in
     let k = entry_passed s c.args.pass c.args.entry.now c.in_ok-check_entry.ensures in
     let new = ap (λ (o : Order). place (numbered o.number) s.book) c.entered-order.ensures.order ∙ k.1 in
-    (∥∥₁_map c.args.self.now.orderly (λ o. c.append.ensures.orderly o (c.entered-order.ensures.fit k.0) new), tt)
+    record { orderly = ∥∥₁_map c.args.self.now.orderly (λ o. c.append.ensures.orderly o (c.entered-order.ensures.fit k.0) new) }
 
 pub returns : goal.returns
 returns g c =

@@ -9,7 +9,7 @@ use Rattle.session.proofs.Flags.{none_closed}
 use Rattle.session.proofs.state.Session.begin.Goals as goal
 
 pub invariant_of-session : goal.invariant_of-session
-invariant_of-session g c = (∣ subst Orderly (sym c.new.ensures) (record { fit = tt; distinct = tt }) ∣₁, tt)
+invariant_of-session g c = record { orderly = ∣ subst Orderly (sym c.new.ensures) (record { fit = tt; distinct = tt }) ∣₁ }
 
 pub returns : goal.returns
 returns g c =

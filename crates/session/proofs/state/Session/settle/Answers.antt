@@ -9,7 +9,7 @@ use Rattle.session.proofs.Carrying.{deal_carries, by_order}
 use Rattle.session.proofs.state.Session.settle.Goals as goal
 
 pub invariant_of-self : goal.invariant_of-self
-invariant_of-self g c = (∥∥₁_map c.args.self.now.orderly c.trade.ensures.orderly, tt)
+invariant_of-self g c = record { orderly = ∥∥₁_map c.args.self.now.orderly c.trade.ensures.orderly }
 
 pub returns : goal.returns
 returns g c =

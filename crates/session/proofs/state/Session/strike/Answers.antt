@@ -3,4 +3,4 @@ use mathlib.Core.Logic.{∥∥₁_map}
 use Rattle.session.proofs.state.Session.strike.Goals as goal
 
 pub invariant_of-self : goal.invariant_of-self
-invariant_of-self g c = (∥∥₁_map c.args.self.now.orderly c.remove.ensures.orderly, tt)
+invariant_of-self g c = record { orderly = ∥∥₁_map c.args.self.now.orderly c.remove.ensures.orderly }
