@@ -1,8 +1,8 @@
 -- That what a register of cells holds is sound: a proof, which it hands over with its meaning.
-use Rattle.std.specs.Prelude.{◌≡◌, ℕ, ◌≤◌, Bool, true, false, cond, ◌&&◌, List, [], ◌∷◌, pos, ◌-ℤ◌, ◌==◌, nat_le, refl}
+use Rattle.std.specs.Prelude.{◌≡◌, ℕ, Bool, true, false, cond, ◌&&◌, List, [], ◌∷◌, pos, ◌-ℤ◌, ◌==◌, nat_le, refl}
 use Rattle.std.proofs.Common.{ap, ◌∙◌, ⊎_elim, arith}
 use Rattle.std.proofs.lemmas.Int.{ints}
-use Rattle.std.proofs.lemmas.Bool.{cases_Bool, and_parts, and_cases, and_right, leb-true}
+use Rattle.std.proofs.lemmas.Bool.{and_parts, and_cases, and_right, leb-true}
 use Rattle.capacity.specs.Directions.{is_way_in}
 use Rattle.capacity.specs.Meaning.{Sound}
 use Rattle.capacity.specs.Tables.{linked, on}

@@ -1,5 +1,5 @@
 -- What a line comes to, by its letter.
-use Rattle.std.proofs.Common.{◌≡◌, ℕ, List, Some, None, Option, sym, subst}
+use Rattle.std.proofs.Common.{◌≡◌, ℕ, List, Some, sym, subst}
 use Rattle.capacity.specs.Meaning.{Capacity}
 use Rattle.script.specs.Fields.{first_letter, after_letter}
 use Rattle.script.specs.Runs.{Outcome, NoticeLine, RequestLine, CallLine}

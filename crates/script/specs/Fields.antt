@@ -1,5 +1,5 @@
 -- The number words of a line: their counts, or the leftmost one that is no number of its unit.
-use Rattle.std.specs.Prelude.{◌≡◌, ℕ, zero, suc, ◌+◌, Bool, true, false, ◌⊎◌, List, [], ◌∷◌, length, pos, Some, None, Ok, Err, Option, Result}
+use Rattle.std.specs.Prelude.{◌≡◌, ℕ, zero, suc, ◌+◌, Bool, true, false, List, [], ◌∷◌, length, pos, Some, None, Ok, Err, Option, Result}
 use Rattle.numbers.specs.declared.Unit.{Unit as Measure}
 use Rattle.numbers.specs.declared.NumberFault.{NumberFault}
 use Rattle.numbers.specs.Reading.{Answers}

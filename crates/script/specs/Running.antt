@@ -1,5 +1,5 @@
 -- What the parts of a run have read and printed: for the contracts of its private functions.
-use Rattle.std.specs.Prelude.{◌≡◌, ℕ, ◌+◌, Bool, true, false, ◌⊎◌, List, [], ◌∷◌, ◌++◌}
+use Rattle.std.specs.Prelude.{◌≡◌, ℕ, ◌+◌, Bool, true, false, List, [], ◌∷◌, ◌++◌}
 use Rattle.capacity.specs.Meaning.{Capacity}
 use Rattle.capacity.specs.Network.{Network, no_network}
 use Rattle.script.specs.declared.reader.Reader.{Reader}

@@ -1,5 +1,5 @@
 -- What a deal takes of the register can be taken, since the orders of a book show some and not too much.
-use Rattle.std.proofs.Common.{◌≡◌, ℕ, zero, suc, ◌<◌, ◌≤◌, min, Bool, true, ◌&&◌, ltb, leb, List, [], ◌∷◌, length, ℤ, pos, sym, refl, ap, ◌∙◌, subst, arith}
+use Rattle.std.proofs.Common.{◌≡◌, ℕ, zero, suc, ◌<◌, ◌≤◌, min, Bool, true, ◌&&◌, ltb, leb, List, [], ◌∷◌, length, pos, sym, ◌∙◌, arith}
 use mathlib.Core.Logic.{∥∥₁_elim}
 use base.Stored.{Coded-set, coded_bool, coded_list}
 use Rattle.std.specs.List.{AllByRecursion as All}
@@ -11,7 +11,7 @@ use Rattle.book.specs.declared.rows.Kind.TheVariants.{Non, Ioc, Ice}
 use Rattle.book.specs.Orderly.{Parted, Fit, Orderly}
 use Rattle.book.specs.Ranks.{order_at}
 use Rattle.capacity.specs.Meaning.{Capacity}
-use Rattle.flows.specs.Flows.{OpenIn, least, least_flow, Carries}
+use Rattle.flows.specs.Flows.{OpenIn, least_flow, Carries}
 use Rattle.flows.proofs.Least.{least_is, least_carries}
 use Rattle.matching.specs.declared.round.Round.{Round}
 use Rattle.routes.specs.Paths.{Path}

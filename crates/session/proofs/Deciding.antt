@@ -1,5 +1,5 @@
 -- How the answer to some tests gives the answer to a longer list of them.
-use Rattle.std.proofs.Common.{◌≡◌, ℕ, Bool, true, false, cond, not, List, [], ◌∷◌, ◌++◌, is_some, Some, None, Ok, Err, Option, sym, refl, ap, ◌∙◌, arith}
+use Rattle.std.proofs.Common.{◌≡◌, ℕ, Bool, true, false, cond, not, List, [], ◌∷◌, ◌++◌, is_some, Some, None, Ok, Err, Option, refl, ap, ◌∙◌, arith}
 use Rattle.capacity.specs.Tests.{answered}
 use Rattle.capacity.specs.Faults as register
 use Rattle.capacity.proofs.Passes.{Passes, answered_passes}

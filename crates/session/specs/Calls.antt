@@ -1,5 +1,5 @@
 -- How each call is answered, and the state after it: the refusals are a list of tests, of which the first that applies counts.
-use Rattle.std.specs.Prelude.{ℕ, Bool, true, false, cond, not, ◌&&◌, ◌||◌, List, [], ◌∷◌, ◌++◌, length, is_some, Some, None, Ok, Err, filter, Option, Result, ◌==◌, nat_lt}
+use Rattle.std.specs.Prelude.{ℕ, Bool, cond, not, ◌||◌, List, [], ◌∷◌, ◌++◌, length, is_some, Some, None, Ok, Err, filter, Option, Result, ◌==◌, nat_lt}
 use Rattle.capacity.specs.Tests.{answered, resulting}
 use Rattle.capacity.specs.Meaning.{Capacity, taken, noticed}
 use Rattle.capacity.specs.Answers.{take_tests, notice_tests}
@@ -8,10 +8,9 @@ use Rattle.book.specs.declared.rows.Order.{Order}
 use Rattle.book.specs.Orders.{entered}
 use Rattle.book.specs.Places.{place, without, numbered, numbered_of, of_contract, not_of_contract}
 use Rattle.book.specs.Terms.{size_tests, slice_tests}
-use Rattle.matching.specs.declared.round.Round.{Round}
 use Rattle.matching.specs.declared.round.Round.TheVariants.{Regular, Batch}
 use Rattle.session.specs.declared.entries.Entry.{Entry}
-use Rattle.session.specs.declared.phases.Phase.TheVariants.{Quiet, Under}
+use Rattle.session.specs.declared.phases.Phase.TheVariants.{Under}
 use Rattle.session.specs.declared.passes.QuietPass.{QuietPass}
 use Rattle.session.specs.declared.passes.RoundPass.{RoundPass}
 use Rattle.session.specs.declared.passes.Refused.{Refused}

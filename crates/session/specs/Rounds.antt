@@ -1,5 +1,5 @@
 -- What a round makes from its beginning to its end: the trades with their routes, oldest first.
-use Rattle.std.specs.Prelude.{◌≡◌, ℕ, not, List, [], ◌∷◌, ◌++◌, Ok, Err, Result}
+use Rattle.std.specs.Prelude.{◌≡◌, ℕ, not, List, [], ◌∷◌, Ok, Err, Result}
 use Rattle.capacity.specs.Tests.{answered}
 use Rattle.matching.specs.declared.round.Round.{Round}
 use Rattle.trades.specs.declared.trade.Trade.{Trade}

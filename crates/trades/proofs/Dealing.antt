@@ -1,5 +1,5 @@
 -- A pair that is chosen over a grid, its orders and its route, as a deal over the register's meaning.
-use Rattle.std.proofs.Common.{◌≡◌, ℕ, zero, suc, ◌<◌, min, Bool, List, [], ◌∷◌, length, ℤ, pos, Some, None, Option, sym, refl, ap, ◌∙◌, subst, arith}
+use Rattle.std.proofs.Common.{◌≡◌, ℕ, zero, suc, ◌<◌, min, Bool, List, [], ◌∷◌, length, ℤ, pos, Some, None, sym, ap, ◌∙◌, subst, arith}
 use Rattle.book.specs.declared.rows.Order.{Order}
 use Rattle.book.specs.Places.{nth}
 use Rattle.book.specs.Ranks.{order_at}
@@ -9,7 +9,6 @@ use Rattle.matching.specs.declared.round.Round.{Round}
 use Rattle.matching.specs.declared.round.Round.TheVariants.{Regular, Batch}
 use Rattle.matching.specs.Pairs.{Executable, InRound, Chosen}
 use Rattle.routes.specs.Paths.{Relation, Holds, Path, IsRoute}
-use Rattle.trades.specs.declared.trade.Trade.{Trade}
 use Rattle.trades.specs.Deals.{traded_contract, price, Deals}
 
 pub executable : (O : Relation) (r : Round) (os : List Order) (i j : ℕ) → InRound O r os i j → Executable O os i j

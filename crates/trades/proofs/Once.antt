@@ -1,5 +1,5 @@
 -- A round has one next trade at most, along one route; and none where no pair is left.
-use Rattle.std.proofs.Common.{◌≡◌, ℕ, min, List, length, ℤ, pos, sym, refl, ap, ◌∙◌, subst}
+use Rattle.std.proofs.Common.{◌≡◌, ℕ, min, List, length, ℤ, pos, sym, ap, ◌∙◌, subst}
 use Rattle.book.specs.declared.rows.Order.{Order}
 use Rattle.book.specs.Ranks.{order_at}
 use Rattle.capacity.specs.Meaning.{Capacity}

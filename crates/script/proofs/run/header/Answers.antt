@@ -10,4 +10,4 @@ pub returns-in-Some : goal.returns-in-Some
 returns-in-Some c =
     let is : Decides c.eq.result (c.in-Some.line.now ≡ c.as_slice.result.now) = slice_eq-Decides Decides-eqb _ _ _ c.eq.ensures in
     header_read c.args.reader.now c.next_line.new.self c.in-Some.line.now c.eq.result c.if-not-next_line.ensures c.in-Some.ensures
-      (subst (λ (xs : List ℕ). Decides c.eq.result (c.in-Some.line.now ≡ xs)) c.as_slice.ensures is)
+    (subst (λ (xs : List ℕ). Decides c.eq.result (c.in-Some.line.now ≡ xs)) c.as_slice.ensures is)

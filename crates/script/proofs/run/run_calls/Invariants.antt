@@ -1,8 +1,6 @@
 use Rattle.std.proofs.Common.{length, string_bytes}
-use Rattle.capacity.specs.Network.{no_network}
-use Rattle.capacity.specs.Shapes.{network_of}
 use Rattle.script.specs.Reading.{below}
-use Rattle.script.specs.Running.{Printed, MapsBelow, CallsBelow}
+use Rattle.script.specs.Running.{Printed, CallsBelow}
 use Rattle.script.proofs.run.run_calls.Given as goal
 
 abbrev pub invariant-loop-heap : goal.invariant-loop-heap

@@ -2,7 +2,7 @@ use Rattle.std.proofs.Common.{length, string_bytes}
 use Rattle.capacity.specs.Network.{no_network}
 use Rattle.capacity.specs.Shapes.{network_of}
 use Rattle.script.specs.Reading.{below}
-use Rattle.script.specs.Running.{Printed, MapsBelow, CallsBelow}
+use Rattle.script.specs.Running.{Printed, MapsBelow}
 use Rattle.script.proofs.run.run_map.Given as goal
 
 abbrev pub invariant-loop-heap : goal.invariant-loop-heap

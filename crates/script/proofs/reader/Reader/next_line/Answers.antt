@@ -1,5 +1,4 @@
-use Rattle.std.proofs.Common.{length, sym, refl, ap, ◌∙◌, rules, true-eqb, false-eqb}
-use Rattle.script.specs.Text.{lines}
+use Rattle.std.proofs.Common.{length, refl, rules, true-eqb, false-eqb}
 use Rattle.script.proofs.Cuts.{no_lines, first_line}
 use Rattle.script.proofs.reader.Reader.next_line.Goals as goal
 

@@ -1,5 +1,5 @@
 -- A notice: refused by the session or the register, or noted.
-use Rattle.std.proofs.Common.{◌≡◌, [], ◌∷◌, Ok, Err, sym, refl, ap, ◌∙◌}
+use Rattle.std.proofs.Common.{[], ◌∷◌, Err, sym, ap, ◌∙◌}
 use Rattle.std.proofs.lemmas.Result.{err_from_is_err_and}
 use Rattle.capacity.specs.Tests.{said}
 use Rattle.capacity.specs.Meaning.{Capacity, noticed}

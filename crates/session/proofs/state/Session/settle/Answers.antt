@@ -2,7 +2,6 @@
 use mathlib.Core.Logic.{∥∥₁_map}
 use Rattle.std.proofs.Common.{List, ap, ◌∙◌}
 use Rattle.book.specs.declared.rows.Order.{Order}
-use Rattle.book.specs.Places.{orders}
 use Rattle.capacity.specs.Meaning.{Capacity}
 use Rattle.session.specs.State.{State, state}
 use Rattle.session.proofs.Carrying.{deal_carries, by_order}

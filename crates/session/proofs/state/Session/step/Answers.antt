@@ -1,9 +1,9 @@
 -- What the step answers is the only answer.
-use Rattle.std.proofs.Common.{◌≡◌, ◌≤◌, ◌++◌, length, drop, Ok, Err, refl, arith, length-take}
+use Rattle.std.proofs.Common.{◌≡◌, ◌≤◌, ◌++◌, length, drop, Ok, refl, arith, length-take}
 use Rattle.routes.specs.Listed.{listed}
 use Rattle.session.specs.declared.steps.Step.TheVariants.{Traded, Done}
 use Rattle.session.specs.State.{state}
-use Rattle.session.specs.Steps.{Stepped, Trades, Ends}
+use Rattle.session.specs.Steps.{Trades, Ends}
 use Rattle.session.proofs.Once.{enough, one_step}
 use Rattle.session.proofs.state.Session.step.Goals as goal
 
