@@ -1,7 +1,7 @@
 -- Orders that are fit stay so through trades and renewals.
 use Rattle.std.proofs.Common.{◌≡◌, ℕ, zero, suc, ◌+◌, ◌-◌, ◌*◌, ◌<◌, ◌≤◌, min, Bool, true, false, cond, not, ◌&&◌, ◌||◌, eqb, ltb, leb, List, [], ◌∷◌, ◌++◌, map, length, take, drop, ℤ, pos, negsuc, filter, sym, refl, ap, ◌∙◌, subst, inl, inr, suc-mul, mul-zero, zero-mul, mul-suc, arith}
 use lib.Signed.{lt_z}
-use Rattle.std.specs.List.{AllByRecursion as All}
+use Rattle.std.specs.List.{AllByRecursion}
 use Rattle.std.proofs.ByRecursion.{All-append, kept_by_passes, All-map, All-weaker, all_kept_by, All-push, All-take, All-drop}
 use Rattle.std.proofs.lemmas.Int.{ints}
 use Rattle.std.proofs.lemmas.Bool.{cases_Bool, cases_lt, and_parts, and_from, and_left, and_right, ltb-true, lt-ltb, le-leb, not-true, not_from_false, ltb-false, cond-true, cond-false}
@@ -115,32 +115,32 @@ iced_kind Non o y h = refl
 iced_kind Ioc o y h = refl
 iced_kind Ice o y h = and_from _ _ y (and_from _ _ (le-leb o.shown o.peak h.peaked) (le-leb o.shown o.«open» h.within))
 
-pub all_iced : (os : List Order) → All Fit os → All Iced os
+pub all_iced : (os : List Order) → AllByRecursion Fit os → AllByRecursion Iced os
 all_iced os h = All-weaker Fit Iced (λ o f. iced_kind o.kind o f.0 f.1.1) os h
 
 -- lists
-pub all_both : {X : Type 0} (P Q : X → Type 0) (xs : List X) → All P xs → All Q xs → All (λ x. P x × Q x) xs
+pub all_both : {X : Type 0} (P Q : X → Type 0) (xs : List X) → AllByRecursion P xs → AllByRecursion Q xs → AllByRecursion (λ x. P x × Q x) xs
 all_both P Q [] h k = tt
 all_both P Q (x ∷ xs) h k = ((h.0, k.0), all_both P Q xs h.1 k.1)
 
-kept_same : {X : Type 0} (p q : X → Bool) (P : X → Type 0) → ((x : X) → P x → p x ≡ q x) → (xs : List X) → All P xs → filter p xs ≡ filter q xs
+kept_same : {X : Type 0} (p q : X → Bool) (P : X → Type 0) → ((x : X) → P x → p x ≡ q x) → (xs : List X) → AllByRecursion P xs → filter p xs ≡ filter q xs
 kept_same p q P e [] h = refl
 kept_same p q P e (x ∷ xs) h =
     ap (λ t. cond t (x ∷ filter p xs) (filter p xs)) (e x h.0) ∙ ap (λ r. cond (q x) (x ∷ r) r) (kept_same p q P e xs h.1)
 
-lasting : (os : List Order) → All Fit os → All Lasts os
+lasting : (os : List Order) → AllByRecursion Fit os → AllByRecursion Lasts os
 lasting os h = All-weaker Fit Lasts (λ o f. f.1) os h
 
-lasts_map : (b s q : ℕ) (os : List Order) → All Fit os → All Lasts (map (struck b s q) os)
+lasts_map : (b s q : ℕ) (os : List Order) → AllByRecursion Fit os → AllByRecursion Lasts (map (struck b s q) os)
 lasts_map b s q os h = All-map Lasts (struck b s q) os (All-weaker Lasts (λ o. Lasts (struck b s q o)) (lasts_struck b s q) os (lasting os h))
 
 -- in a book of fit orders all that has run out can be renewed
-pub settled_same : (b s q : ℕ) (os : List Order) → All Fit os → settled_rows b s q os ≡ settled b s q os
+pub settled_same : (b s q : ℕ) (os : List Order) → AllByRecursion Fit os → settled_rows b s q os ≡ settled b s q os
 settled_same b s q os h =
     let ys = map (struck b s q) os in
     ap (λ r. filter shows ys ++ map next_slice r) (kept_same renewable run_out Lasts renewable_same ys (lasts_map b s q os h))
 
-pub fit_settled : (b s q : ℕ) (os : List Order) → All Fit os → All Fit (settled b s q os)
+pub fit_settled : (b s q : ℕ) (os : List Order) → AllByRecursion Fit os → AllByRecursion Fit (settled b s q os)
 fit_settled b s q os h =
     let ys = map (struck b s q) os in
     let l = lasts_map b s q os h in
@@ -149,12 +149,12 @@ fit_settled b s q os h =
     (all_both (λ o. shows o ≡ true) Lasts (filter shows ys) (kept_by_passes shows ys) (all_kept_by shows Lasts ys l))
     (All-map Fit next_slice out (All-weaker (λ o. (run_out o ≡ true) × Lasts o) (λ o. Fit (next_slice o)) next_fit out (all_both (λ o. run_out o ≡ true) Lasts out (kept_by_passes run_out ys) (all_kept_by run_out Lasts ys l))))
 
-pub all_without : {X : Type 0} (P : X → Type 0) (xs : List X) (i : ℕ) → All P xs → All P (without xs i)
+pub all_without : {X : Type 0} (P : X → Type 0) (xs : List X) (i : ℕ) → AllByRecursion P xs → AllByRecursion P (without xs i)
 all_without P xs i h = All-append P (take i xs) (drop (i + 1) xs) (All-take P i xs h) (All-drop P (i + 1) xs h)
 
-pub all_appended : (P : Order → Type 0) (os : List Order) (o : Order) → All P os → P o → All P (appended os o)
+pub all_appended : (P : Order → Type 0) (os : List Order) (o : Order) → AllByRecursion P os → P o → AllByRecursion P (appended os o)
 all_appended P os o h k =
     elim (cases_Bool (ltb (length os) 128)) [
-      | inl y ↦ subst (All P) (sym (cond-true _ (os ++ o ∷ []) os y)) (All-push P os o h k)
-      | inr n ↦ subst (All P) (sym (cond-false _ (os ++ o ∷ []) os n)) h
+      | inl y ↦ subst (AllByRecursion P) (sym (cond-true _ (os ++ o ∷ []) os y)) (All-push P os o h k)
+      | inr n ↦ subst (AllByRecursion P) (sym (cond-false _ (os ++ o ∷ []) os n)) h
     ]

@@ -1,6 +1,6 @@
 -- No number comes twice, whatever is done to the book.
 use Rattle.std.proofs.Common.{◌≡◌, ℕ, zero, suc, ◌+◌, ◌≤◌, Bool, true, false, ◌||◌, eqb, ltb, List, [], ◌∷◌, ◌++◌, map, length, take, drop, None, filter, sym, refl, ap, ◌∙◌, subst, inl, inr, arith}
-use Rattle.std.specs.List.{AllByRecursion as All}
+use Rattle.std.specs.List.{AllByRecursion}
 use Rattle.std.proofs.ByRecursion.{All-append, All-map, All-weaker, all_kept_by, All-push, All-take, All-drop}
 use Rattle.std.proofs.lemmas.Bool.{cases_Bool, cond-true, cond-false, and_left, not_from_true, eqb-false}
 use Rattle.book.specs.declared.rows.Order.{Order}
@@ -59,17 +59,17 @@ module _ (f : Order → Order) (same : (o : Order) → (f o).number ≡ o.number
   distinct_map [] d = tt
   distinct_map (o ∷ os) d = (lacks_map (f o).number os (subst (λ n. Lacks n os) (sym (same o)) d.0), distinct_map os d.1)
 
-distinct_both : (xs ys : List Order) → Distinct xs → Distinct ys → All (λ x. Lacks x.number ys) xs → Distinct (xs ++ ys)
+distinct_both : (xs ys : List Order) → Distinct xs → Distinct ys → AllByRecursion (λ x. Lacks x.number ys) xs → Distinct (xs ++ ys)
 distinct_both [] ys d e h = e
 distinct_both (x ∷ xs) ys d e h = (All-append (λ y. y.number ≡ x.number → ⊥) xs ys d.0 h.0, distinct_both xs ys d.1 e h.1)
 
 -- two parts of one book have no number in common
-apart_lack : (p q : Order → Bool) → ((o : Order) → p o ≡ true → q o ≡ false) → (os : List Order) → Distinct os → All (λ x. Lacks x.number (filter q os)) (filter p os)
+apart_lack : (p q : Order → Bool) → ((o : Order) → p o ≡ true → q o ≡ false) → (os : List Order) → Distinct os → AllByRecursion (λ x. Lacks x.number (filter q os)) (filter p os)
 apart_lack p q apart [] d = tt
 apart_lack p q apart (o ∷ os) d =
     let more = apart_lack p q apart os d.1 in
     let L : List Order → Order → Type 0 = λ r x. Lacks x.number r in
-    let G : List Order → List Order → Type 0 = λ xs ys. All (L ys) xs in
+    let G : List Order → List Order → Type 0 = λ xs ys. AllByRecursion (L ys) xs in
     elim (cases_Bool (p o)) [
       | inl y ↦
           subst (λ xs. G xs (filter q (o ∷ os))) (sym (cond-true (p o) (o ∷ filter p os) (filter p os) y))

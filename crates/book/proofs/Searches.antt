@@ -1,14 +1,14 @@
 -- What a search for the first place says.
 use Rattle.std.proofs.Common.{◌≡◌, ℕ, zero, suc, ◌+◌, ◌<◌, ◌≤◌, Bool, true, false, cond, List, [], ◌∷◌, length, get_or, take, drop, Some, None, Option, sym, refl, ap, ◌∙◌, subst, inl, inr, arith}
-use Rattle.std.specs.List.{HoldsAt, AllByRecursion as All}
+use Rattle.std.specs.List.{HoldsAt, AllByRecursion}
 use Rattle.std.proofs.lemmas.Bool.{cond-true, cond-false, cases_Bool}
 use Rattle.book.specs.Places.{nth, place, place_from, Placed}
 use Rattle.std.proofs.lemmas.List.{at_drop_more, at_drop_all}
 use Rattle.book.proofs.Fronts.{front_at}
 
 abbrev pub From : {X : Type 0} → (X → Bool) → ℕ → List X → Option ℕ → Type 0
-From p i xs None = All (λ x. p x ≡ false) xs
-From p i xs (Some k) = (m : ℕ) × (k ≡ i + m) × (m < length xs) × HoldsAt (λ x. p x ≡ true) xs m × All (λ x. p x ≡ false) (take m xs)
+From p i xs None = AllByRecursion (λ x. p x ≡ false) xs
+From p i xs (Some k) = (m : ℕ) × (k ≡ i + m) × (m < length xs) × HoldsAt (λ x. p x ≡ true) xs m × AllByRecursion (λ x. p x ≡ false) (take m xs)
 
 past_one : {X : Type 0} (p : X → Bool) (i : ℕ) (x : X) (xs : List X) (o : Option ℕ) → p x ≡ false → From p (i + 1) xs o → From p i (x ∷ xs) o
 past_one p i x xs None n h = (n, h)
@@ -26,7 +26,7 @@ at_start : {X : Type 0} (p : X → Bool) (xs : List X) (o : Option ℕ) → From
 at_start p xs None h = h
 at_start {X} p xs (Some k) h =
     let e : h.0 ≡ k = omega (arith, h.1) in
-    let P : ℕ → Type 0 = λ m. (m < length xs) × HoldsAt (λ x. p x ≡ true) xs m × All (λ x. p x ≡ false) (take m xs) in
+    let P : ℕ → Type 0 = λ m. (m < length xs) × HoldsAt (λ x. p x ≡ true) xs m × AllByRecursion (λ x. p x ≡ false) (take m xs) in
     subst P e (h.2, h.3, h.4)
 
 pub placed : {X : Type 0} (p : X → Bool) (xs : List X) → Placed p xs (place p xs)

@@ -1,6 +1,6 @@
 -- What the book of a session keeps: every order in range through all its slices, and no number twice.
 use Rattle.std.specs.Prelude.{◌≡◌, ℕ, ◌+◌, ◌*◌, ◌≤◌, true, List, [], ◌∷◌, ℤ, pos, negsuc, ◌≤ℤ◌, ◌≢◌}
-use Rattle.std.specs.List.{AllByRecursion as All}
+use Rattle.std.specs.List.{AllByRecursion}
 use Rattle.book.specs.declared.rows.Kind.{Kind}
 use Rattle.book.specs.declared.rows.Kind.TheVariants.{Non, Ioc, Ice}
 use Rattle.book.specs.declared.rows.Order.{Order}
@@ -33,7 +33,7 @@ Fit o = (shows o ≡ true) × Lasts o
 
 -- no order has the number n
 abbrev pub Lacks : ℕ → List Order → Type 0
-Lacks n os = All (λ o. o.number ≢ n) os
+Lacks n os = AllByRecursion (λ o. o.number ≢ n) os
 
 -- no two orders have one number
 abbrev pub Distinct : List Order → Type 0
@@ -41,5 +41,5 @@ Distinct [] = Unit {0}
 Distinct (o ∷ os) = Lacks o.number os × Distinct os
 
 pub record Orderly (os : List Order) : Type 0 where
-  pub fit : All Fit os
+  pub fit : AllByRecursion Fit os
   pub distinct : Distinct os

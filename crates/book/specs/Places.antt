@@ -1,6 +1,6 @@
 -- The book as the list of its orders, oldest first.
 use Rattle.std.specs.Prelude.{◌≡◌, ℕ, zero, suc, ◌+◌, ◌<◌, Bool, true, false, cond, not, ◌&&◌, List, [], ◌∷◌, ◌++◌, length, take, drop, Some, None, Option, ◌==◌, nat_lt}
-use Rattle.std.specs.List.{HoldsAt, AllByRecursion as All}
+use Rattle.std.specs.List.{HoldsAt, AllByRecursion}
 use Rattle.book.specs.declared.rows.Order.{Order}
 use Rattle.book.specs.declared.places.Book.{Book}
 use Rattle.book.specs.Refusals.{first_refusing}
@@ -37,8 +37,8 @@ place p xs = place_from p 0 xs
 
 -- the same as a relation: none passes, or the first that passes stands there
 abbrev pub Placed : {X : Type 0} → (X → Bool) → List X → Option ℕ → Type 0
-Placed p xs None = All (λ x. p x ≡ false) xs
-Placed p xs (Some k) = (k < length xs) × HoldsAt (λ x. p x ≡ true) xs k × All (λ x. p x ≡ false) (take k xs)
+Placed p xs None = AllByRecursion (λ x. p x ≡ false) xs
+Placed p xs (Some k) = (k < length xs) × HoldsAt (λ x. p x ≡ true) xs k × AllByRecursion (λ x. p x ≡ false) (take k xs)
 
 abbrev pub numbered : ℕ → Order → Bool
 numbered n o = o.number == n

@@ -1,7 +1,7 @@
 // What a trade does to the book.
 ghost use Rattle.std.specs.Prelude.{◌≡◌, map};
 ghost use Rattle.std.specs.List.{filter};
-ghost use Rattle.std.specs.List.{AllByRecursion as All};
+ghost use Rattle.std.specs.List.{AllByRecursion};
 ghost use Rattle.book.specs.Orders.{shows};
 ghost use Rattle.book.specs.Orderly.{Fit, Orderly};
 ghost use Rattle.book.specs.Trades.{struck, renewable, renewed_by, settled, settled_rows};
@@ -58,10 +58,10 @@ impl Book {
 
     // A trade between two orders: what still shows keeps its age, what is used up leaves, the next slices become the newest.
     pub fn trade(&mut self, buy: u32, sell: u32, quantity: u32)
-        ensures after { All Fit (orders self.old) → orders self.new ≡ settled buy sell quantity (orders self.old) }
+        ensures after { AllByRecursion Fit (orders self.old) → orders self.new ≡ settled buy sell quantity (orders self.old) }
         ensures rows { orders self.new ≡ settled_rows buy sell quantity (orders self.old) }
         ensures orderly { Orderly (orders self.old) → Orderly (orders self.new) }
-        ensures iced { All Fit (orders self.old) → All Iced (orders self.old) }
+        ensures iced { AllByRecursion Fit (orders self.old) → AllByRecursion Iced (orders self.old) }
         ensures examples { Examples }
     {
         self.strike(buy, sell, quantity);

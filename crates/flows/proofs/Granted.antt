@@ -1,6 +1,6 @@
 -- The areas of a path are distinct, so the takes of a trade leave the ATCs of the other hops alone: every one is granted.
 use Rattle.std.proofs.Common.{◌≡◌, ℕ, ◌≤◌, List, [], ◌∷◌, pos, ◌≤ℤ◌, sym, refl, ap, ◌∙◌, subst}
-use Rattle.std.specs.List.{AllByRecursion as All}
+use Rattle.std.specs.List.{AllByRecursion}
 use Rattle.capacity.proofs.Layers.{granted_passes}
 use Rattle.capacity.proofs.Passes.{passes_resulting}
 use Rattle.capacity.specs.Answers.{take_tests}
@@ -14,7 +14,7 @@ use Rattle.flows.proofs.Opened.{open_parts}
 use Rattle.flows.proofs.Taken.{atc_from, atc_apart, take_covered}
 
 abbrev pub NotIn : ℕ → List ℕ → Type 0
-NotIn a xs = All (λ b. b ≡ a → ⊥) xs
+NotIn a xs = AllByRecursion (λ b. b ≡ a → ⊥) xs
 
 module _ (c q : ℕ) where
   abbrev pub carried_on : Capacity → ℕ → List ℕ → Capacity

@@ -1,6 +1,6 @@
 -- Lists along which levels fall by one, and from them how long paths are.
 use Rattle.std.proofs.Common.{◌≡◌, ℕ, zero, suc, ◌+◌, ◌<◌, ◌≤◌, List, [], ◌∷◌, length, refl, ap, inl, inr, arith}
-use Rattle.std.specs.List.{AllByRecursion as All}
+use Rattle.std.specs.List.{AllByRecursion}
 use Rattle.std.proofs.ByRecursion.{All-weaker}
 use Rattle.std.proofs.lemmas.List.{get_or_past}
 use Rattle.std.proofs.lemmas.Bool.{cases_lt}
@@ -18,7 +18,7 @@ module _ (O : Relation) (q : ℕ) (d : List ℕ) where
   falls_onward a [] h = h
   falls_onward a (b ∷ xs) h = (h.0, falls_onward b xs h.2)
 
-  falls_less : (a n : ℕ) (xs : List ℕ) → lv d a ≤ n → Falls O d q a xs → All (λ b. lv d b < n) xs
+  falls_less : (a n : ℕ) (xs : List ℕ) → lv d a ≤ n → Falls O d q a xs → AllByRecursion (λ b. lv d b < n) xs
   falls_less a n [] l h = tt
   falls_less a n (b ∷ xs) l h =
       let e : lv d b + 1 ≡ lv d a = h.1 in
@@ -34,7 +34,7 @@ module _ (O : Relation) (q : ℕ) (d : List ℕ) where
   pub falls_path : (a : ℕ) (xs : List ℕ) → Area a → Falls O d q a xs → Path O a q (a ∷ xs)
   falls_path a xs l h = ((l, refl, falls_onward a xs h), falls_apart a xs h)
 
-  falls_areas : (a : ℕ) (xs : List ℕ) → Falls O d q a xs → All Area xs
+  falls_areas : (a : ℕ) (xs : List ℕ) → Falls O d q a xs → AllByRecursion Area xs
   falls_areas a [] h = tt
   falls_areas a (b ∷ xs) h = (h.0.1, falls_areas b xs h.2)
 
@@ -46,7 +46,7 @@ module _ (O : Relation) (q : ℕ) (d : List ℕ) where
         let e : lv d b + 1 ≡ lv d a = h.1 in
         omega arith
 
-    falls_some : (a : ℕ) (xs : List ℕ) → Falls O d q a xs → All (λ b. 0 < lv d b) (a ∷ xs)
+    falls_some : (a : ℕ) (xs : List ℕ) → Falls O d q a xs → AllByRecursion (λ b. 0 < lv d b) (a ∷ xs)
     falls_some a [] h = (let k : lv d a ≡ lv d q = ap (lv d) h in omega arith, tt)
     falls_some a (b ∷ xs) h = (let e : lv d b + 1 ≡ lv d a = h.1 in omega arith, falls_some b xs h.2)
 
@@ -65,7 +65,7 @@ module _ (O : Relation) (q : ℕ) (d : List ℕ) (f : Levels O q d 16 16) where
   last a b o e z =
       let r = falls_from O q d 16 16 f 15 b o.1 e in
       let k : length r.0 + 1 ≡ lv d b = falls_length O q d f.first b r.0 r.1 in
-      let v : All (λ c. c ≡ a → ⊥) (b ∷ r.0) = All-weaker (λ c. 0 < lv d c) (λ c. c ≡ a → ⊥) (λ c l g. let w : lv d c ≡ lv d a = ap (lv d) g in omega arith) (b ∷ r.0) (falls_some O q d f.first b r.0 r.1) in
+      let v : AllByRecursion (λ c. c ≡ a → ⊥) (b ∷ r.0) = All-weaker (λ c. 0 < lv d c) (λ c. c ≡ a → ⊥) (λ c l g. let w : lv d c ≡ lv d a = ap (lv d) g in omega arith) (b ∷ r.0) (falls_some O q d f.first b r.0 r.1) in
       let w : length (a ∷ b ∷ r.0) ≤ 16 = few 16 (a ∷ b ∷ r.0) (v, falls_apart O q d b r.0 r.1) (o.0, (o.1, falls_areas O q d b r.0 r.1)) in
       omega arith
 

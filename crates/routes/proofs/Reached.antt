@@ -1,13 +1,13 @@
 -- The laws of reaching: loops are cut out of a walk, and walks are joined.
 use Rattle.std.proofs.Common.{◌≡◌, ℕ, ◌⊎◌, List, [], ◌∷◌, ◌++◌, sym, refl, ap, subst, inl, inr}
-use Rattle.std.specs.List.{AllByRecursion as All}
+use Rattle.std.specs.List.{AllByRecursion}
 use Rattle.std.proofs.lemmas.Bool.{cases_eq}
 use Rattle.routes.specs.Paths.{Area, Relation, Hop, Onward, Walk, NoRepeat, Path}
 use Rattle.routes.specs.Laws.{Reach, ReachLaws}
 
 module _ (O : Relation) where
   -- a path that comes through a has a path from a in it
-  cut : (a q x : ℕ) (xs : List ℕ) → Area a → Onward O x q xs → NoRepeat (x ∷ xs) → All (λ y. y ≡ a → ⊥) (x ∷ xs) ⊎ ((zs : List ℕ) × Path O a q zs)
+  cut : (a q x : ℕ) (xs : List ℕ) → Area a → Onward O x q xs → NoRepeat (x ∷ xs) → AllByRecursion (λ y. y ≡ a → ⊥) (x ∷ xs) ⊎ ((zs : List ℕ) × Path O a q zs)
   cut a q x [] l o u = elim (cases_eq x a) [
     | inl e ↦ inr (x ∷ [], ((subst Area (sym e) l, e, o), u))
     | inr n ↦ inl (n, tt)
@@ -47,7 +47,7 @@ module _ (O : Relation) where
       (x ∷ (xs ++ ys), (h.0, h.1, onward_join x b c xs ys h.2 (subst (λ z. Onward O z c ys) k.1 k.2)))
 
   -- an area that comes later is the one that the list ends with, or stands before it
-  ends_in : (a q : ℕ) (xs : List ℕ) → Onward O a q xs → All (λ b. b ≡ q → ⊥) (a ∷ xs) → ⊥
+  ends_in : (a q : ℕ) (xs : List ℕ) → Onward O a q xs → AllByRecursion (λ b. b ≡ q → ⊥) (a ∷ xs) → ⊥
   ends_in a q [] o n = n.0 o
   ends_in a q (b ∷ xs) o n = ends_in b q xs o.1 n.1
 

@@ -1,6 +1,6 @@
 -- Paths between areas, and which of them is the route, over any relation of open directions.
 use Rattle.std.specs.Prelude.{◌≡◌, ℕ, ◌<◌, ◌≤◌, Bool, true, ◌⊎◌, List, [], ◌∷◌, length, ◌≢◌}
-use Rattle.std.specs.List.{AllByRecursion as All}
+use Rattle.std.specs.List.{AllByRecursion}
 
 -- areas are numbered 0 to 15
 abbrev pub Area : ℕ → Type 0
@@ -31,7 +31,7 @@ Walk Open p q (a ∷ rest) = Area a × (a ≡ p) × Onward Open a q rest
 -- no number stands in the list twice
 abbrev pub NoRepeat : List ℕ → Type 0
 NoRepeat [] = Unit {0}
-NoRepeat (a ∷ rest) = All (λ b. b ≢ a) rest × NoRepeat rest
+NoRepeat (a ∷ rest) = AllByRecursion (λ b. b ≢ a) rest × NoRepeat rest
 
 abbrev pub Path : Relation → ℕ → ℕ → List ℕ → Type 0
 Path Open p q xs = Walk Open p q xs × NoRepeat xs

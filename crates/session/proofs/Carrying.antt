@@ -2,7 +2,7 @@
 use Rattle.std.proofs.Common.{◌≡◌, ℕ, zero, suc, ◌<◌, ◌≤◌, min, Bool, true, ◌&&◌, ltb, leb, List, [], ◌∷◌, length, pos, sym, ◌∙◌, arith}
 use mathlib.Core.Logic.{∥∥₁_elim}
 use base.Stored.{Coded-set, coded_bool, coded_list}
-use Rattle.std.specs.List.{AllByRecursion as All}
+use Rattle.std.specs.List.{AllByRecursion}
 use Rattle.std.proofs.lemmas.Bool.{ltb-true, leb-true, lt-ltb, le-leb, and_from, and_parts}
 use Rattle.book.specs.contracts.rows.Order.{the_row as order_row}
 use Rattle.book.specs.declared.rows.Order.{Order}
@@ -25,7 +25,7 @@ shown_few Non o h = omega (arith, h)
 shown_few Ioc o h = omega (arith, h)
 shown_few Ice o h = h.within
 
-shown_range : (os : List Order) (i : ℕ) → All Fit os → i < length os → (1 ≤ (order_at os i).shown) × ((order_at os i).shown ≤ 9999)
+shown_range : (os : List Order) (i : ℕ) → AllByRecursion Fit os → i < length os → (1 ≤ (order_at os i).shown) × ((order_at os i).shown ≤ 9999)
 shown_range [] i h l = absurd (omega arith)
 shown_range (o ∷ os) zero h l =
     let some = ltb-true 0 o.shown h.0.0 in

@@ -2,7 +2,7 @@
 use Rattle.std.proofs.Common.{◌≡◌, ℕ, zero, suc, ◌+◌, ◌<◌, ◌≤◌, Bool, true, false, cond, ◌||◌, eqb, ltb, List, [], ◌∷◌, ◌++◌, map, length, filter, sym, refl, ap, inl, inr, arith, eq-eqb}
 use mathlib.Core.Logic.{∥∥₁_elim}
 use base.Stored.{Coded-set, coded_bool}
-use Rattle.std.specs.List.{AllByRecursion as All}
+use Rattle.std.specs.List.{AllByRecursion}
 use Rattle.std.proofs.lemmas.Bool.{ltb-true, lt-ltb, cases_Bool, and_left, not_from_true}
 use Rattle.book.specs.declared.rows.Order.{Order}
 use Rattle.book.specs.declared.rows.Kind.{Kind}
@@ -76,7 +76,7 @@ open_few Non o h = omega (arith, h)
 open_few Ioc o h = omega (arith, h)
 open_few Ice o h = h.within
 
-open_some : (os : List Order) (i : ℕ) → All Fit os → i < length os → 1 ≤ (order_at os i).«open»
+open_some : (os : List Order) (i : ℕ) → AllByRecursion Fit os → i < length os → 1 ≤ (order_at os i).«open»
 open_some [] i h l = absurd (omega arith)
 open_some (o ∷ os) zero h l = omega (arith, ltb-true 0 o.shown h.0.0, open_few o.kind o h.0.1.1)
 open_some (o ∷ os) (suc i) h l = open_some os i h.1 (omega arith)

@@ -19,7 +19,7 @@ pub trait TradeLog {
 
     // Notes a trade and the areas of its route.
     fn note(&mut self, trade: &Trade, route: &[u32])
-        ensures { notes self.old (record { trade = trade.entry.now; route = route.now }) self.new };
+        ensures { notes self.old (record { trade = trade.now; route = route.now }) self.new };
 }
 
 impl<R: Register> Session<R> {
