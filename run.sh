@@ -1,6 +1,6 @@
 #!/usr/bin/env bash
 # Proves and builds the program, then runs it on the script that is named, or on standard input.
 cd "$(dirname "$0")" || exit 2
-rt check rounds >target.log 2>&1 || { cat target.log; exit 1; }
+(cd crates/rounds && rt run) </dev/null >target.log 2>&1 || { cat target.log; exit 1; }
 rm -f target.log
-exec target/bin/rounds "$@"
+exec crates/rounds/out/rounds "$@"
