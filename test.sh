@@ -27,12 +27,9 @@ if grep -q '^rt: ok.*, [1-9][0-9]* bad' "$log"; then
 fi
 
 # A text under refused/ names in its first two lines the error it must meet and the crates it stands on,
-# and marks by '// refused here' the line at which the compiler must stop. Each is tried as a crate of its own
-# over the crates of this repository.
-mkdir "$work/crates"
-for crate in crates/*/; do
-    ln -s "$PWD/${crate%/}" "$work/$crate"
-done
+# and marks by '// refused here' the line at which the compiler must stop. Each is tried as a crate of its own,
+# in a copy of this repository with what rt ci built.
+cp -r crates "$work/crates"
 for text in refused/*.txt; do
     name=$(basename "$text" .txt)
     error=$(sed -n '1s/^\/\/ must be refused: //p' "$text")
