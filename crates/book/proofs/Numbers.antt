@@ -35,7 +35,7 @@ distinct_kept p (o ∷ os) d =
       | inr n ↦ subst Distinct (sym (cond-false (p o) (o ∷ filter p os) (filter p os) n)) (distinct_kept p os d.1)
     ]
 
-distinct_push : (os : List Order) (o : Order) → Distinct os → Lacks o.number os → Distinct (os ++ o ∷ [])
+pub distinct_push : (os : List Order) (o : Order) → Distinct os → Lacks o.number os → Distinct (os ++ o ∷ [])
 distinct_push [] o d h = (tt, tt)
 distinct_push (x ∷ os) o d h = (All-push (λ y. y.number ≡ x.number → ⊥) os o d.0 (λ e. h.0 (sym e)), distinct_push os o d.1 h.1)
 

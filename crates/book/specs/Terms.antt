@@ -19,11 +19,22 @@ ill_sliced Ice t = (nat_lt t.peak 50 || nat_lt t.quantity t.peak) || (nat_lt 500
 abbrev pub size_tests : OrderTerms → List (Bool × ℕ)
 size_tests t = (beyond t.limit, 5) ∷ (nat_lt t.quantity 1 || nat_lt 9999 t.quantity, 6) ∷ []
 
+-- the same of a limit and a quantity alone
+abbrev pub bounds_tests : ℤ → ℕ → List (Bool × ℕ)
+bounds_tests l q = (beyond l, 5) ∷ (nat_lt q 1 || nat_lt 9999 q, 6) ∷ []
+
 abbrev pub slice_tests : OrderTerms → List (Bool × ℕ)
 slice_tests t = (ill_sliced t.kind t, 7) ∷ []
 
+-- of an order's terms, the lowest number first
+abbrev pub terms_tests : OrderTerms → List (Bool × ℕ)
+terms_tests t = size_tests t ++ slice_tests t
+
 abbrev pub size_refusal : OrderTerms → Option ℕ
 size_refusal t = first_refusing (size_tests t)
+
+abbrev pub bounds_refusal : ℤ → ℕ → Option ℕ
+bounds_refusal l q = first_refusing (bounds_tests l q)
 
 abbrev pub slice_refusal : OrderTerms → Option ℕ
 slice_refusal t = first_refusing (slice_tests t)

@@ -7,7 +7,7 @@ pub mod places;
 mod ranks;
 pub mod rows;
 mod slices;
-mod terms;
+pub mod terms;
 #[cfg(test)]
 mod tests;
 mod trades;

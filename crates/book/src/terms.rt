@@ -3,10 +3,10 @@ ghost use Rattle.std.specs.Prelude.{◌≡◌, None};
 ghost use Rattle.book.specs.Orders.{entered, first_slice};
 ghost use Rattle.book.specs.Orderly.{Fit};
 ghost use Rattle.book.specs.Refusals.{told};
-ghost use Rattle.book.specs.Terms.{size_refusal, slice_refusal, ill_sliced, refusal};
+ghost use Rattle.book.specs.Terms.{size_refusal, bounds_refusal, slice_refusal, ill_sliced, refusal};
 
 use crate::faults::BookFault;
-use crate::rows::{Kind, Order, OrderTerms};
+use crate::rows::{Kind, Order, OrderTerms, Side};
 use crate::slices::{beyond, moved};
 
 const QUANTITY_MIN: u32 = 1;
@@ -16,6 +16,21 @@ const QUANTITY_MAX: u32 = 9_999;
 const PEAK_MIN: u32 = 50;
 
 const DELTA_MAX: u32 = 500;
+
+// Refuses a limit, then a quantity, out of range, whatever else an order has.
+pub fn check_bounds(limit: i32, quantity: u32) -> Result<(), BookFault>
+    ensures { told result ≡ bounds_refusal limit quantity }
+{
+    let plain = OrderTerms {
+        kind: Kind::Non,
+        side: Side::Buy,
+        limit,
+        quantity,
+        peak: 0,
+        delta: 0,
+    };
+    plain.check_size()
+}
 
 impl OrderTerms {
     // Whether peak and delta do not go with the kind, the quantity or the limit.

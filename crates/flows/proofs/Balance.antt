@@ -127,7 +127,7 @@ module _ (k q : ℕ) where
       ∙ take_moves m k x b q (subst Net (sym e) net) (subst (λ z. z x b ≡ true) (sym e) (open_parts n d x b o.0.2).1) c a
 
 -- a trade from x to y moves its quantity from the one to the other, and nothing between
-pub carried_moves : (m : Capacity) → Sound m → (k q x y : ℕ) (xs : List ℕ) → Path (OpenIn m k) x y xs → Moved m (carried m k q xs) k x y q
-carried_moves m s k q x y [] p = absurd p.0
-carried_moves m s k q x y (a ∷ xs) p =
-    subst (λ i. Moved m (carried m k q (a ∷ xs)) k i y q) p.0.1 (moves_on k q m (sound_net m s) m refl k a y xs p.0.2)
+pub carried_moves : (m : Capacity) → Net m.joins → (k q x y : ℕ) (xs : List ℕ) → Path (OpenIn m k) x y xs → Moved m (carried m k q xs) k x y q
+carried_moves m net k q x y [] p = absurd p.0
+carried_moves m net k q x y (a ∷ xs) p =
+    subst (λ i. Moved m (carried m k q (a ∷ xs)) k i y q) p.0.1 (moves_on k q m net m refl k a y xs p.0.2)

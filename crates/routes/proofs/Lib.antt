@@ -3,7 +3,7 @@ pub mod Flags
 pub mod Reached
 pub mod Unique
 pub mod Carried
-mod Repeats
+pub mod Repeats
 mod Found
 mod Sweeps
 mod Falls

@@ -8,11 +8,11 @@ use Rattle.script.specs.declared.faults.LineFault.TheVariants.{Form, Word, Map, 
 use Rattle.script.specs.Fields.{Counted, Faulty, Counts, OneFault}
 
 -- Of the words ws₀, i are read as the first counts of cs, and the words ws are left.
-pub record Read-so-far (us : List Measure) (ws₀ : List (List ℕ)) (i : ℕ) (ws : List (List ℕ)) (cs : List ℕ) : Type 0 where
+pub record ReadSoFar (us : List Measure) (ws₀ : List (List ℕ)) (i : ℕ) (ws : List (List ℕ)) (cs : List ℕ) : Type 0 where
   pub counts : (ns : List ℕ) (rest : List (List ℕ)) → Counted (drop i us) ws ns rest → Counted us ws₀ (take i cs ++ ns) rest
   pub faults : (k : ℕ) (f : NumberFault) → Faulty (drop i us) ws k f → Faulty us ws₀ (i + k) f
 
-pub none_read : (us : List Measure) (ws : List (List ℕ)) (cs : List ℕ) → Read-so-far us ws 0 ws cs
+pub none_read : (us : List Measure) (ws : List (List ℕ)) (cs : List ℕ) → ReadSoFar us ws 0 ws cs
 none_read us ws cs = record { counts = λ ns rest h. h; faults = λ k f h. rw zero-add h }
 
 -- the first of some words is read as a count of u
@@ -27,7 +27,7 @@ first_passed u us ws ws' n k f (w, ws₁, n₁, ns₁, (e, p, a, q)) h = rw e ((
 pub one_less : (u : Measure) (ws ws' : List (List ℕ)) (n : ℕ) → Counted (u ∷ []) ws (n ∷ []) ws' → length ws ≡ suc (length ws')
 one_less u ws ws' n (w, ws₁, n₁, ns₁, (e, p, a, q)) = rw (e, q.0)
 
-pub one_more : (us : List Measure) (ws₀ ws ws' : List (List ℕ)) (cs : List ℕ) (i n : ℕ) (d : Measure) → i < length us → i < length cs → Read-so-far us ws₀ i ws cs → Counted (get_or us i d ∷ []) ws (n ∷ []) ws' → Read-so-far us ws₀ (i + 1) ws' (set cs i n)
+pub one_more : (us : List Measure) (ws₀ ws ws' : List (List ℕ)) (cs : List ℕ) (i n : ℕ) (d : Measure) → i < length us → i < length cs → ReadSoFar us ws₀ i ws cs → Counted (get_or us i d ∷ []) ws (n ∷ []) ws' → ReadSoFar us ws₀ (i + 1) ws' (set cs i n)
 one_more us ws₀ ws ws' cs i n d lu lc so one =
     let more : drop i us ≡ get_or us i d ∷ drop (i + 1) us = drop_more us i d lu in
     let filled : take (i + 1) (set cs i n) ≡ take i cs ++ n ∷ [] = take_more_set cs i n lc in
@@ -36,7 +36,7 @@ one_more us ws₀ ws ws' cs i n d lu lc so one =
       faults = λ k f h. let z : i + suc k ≡ (i + 1) + k = omega arith in rw (sym z) (so.faults (suc k) f (rw more (first_passed (get_or us i d) (drop (i + 1) us) ws ws' n k f one h)));
     }
 
-pub all_read : (us : List Measure) (ws₀ ws : List (List ℕ)) (cs : List ℕ) (i : ℕ) → length us ≤ i → length cs ≤ i → length ws ≡ 0 → Read-so-far us ws₀ i ws cs → Counted us ws₀ cs []
+pub all_read : (us : List Measure) (ws₀ ws : List (List ℕ)) (cs : List ℕ) (i : ℕ) → length us ≤ i → length cs ≤ i → length ws ≡ 0 → ReadSoFar us ws₀ i ws cs → Counted us ws₀ cs []
 all_read us ws₀ [] cs i lu lc e so =
     let last : Counted (drop i us) [] [] [] = rw (drop_all i us lu) (refl, refl) in
     rw (append-nil, take_all i cs lc) at (so.counts [] [] last)
@@ -47,7 +47,7 @@ first_faulty : (u : Measure) (us : List Measure) (ws : List (List ℕ)) (f : Num
 first_faulty u us [] f h = h
 first_faulty u us (w ∷ ws) f h = h
 
-pub stopped : (us : List Measure) (ws₀ ws : List (List ℕ)) (cs : List ℕ) (i before words : ℕ) (d : Measure) (e : LineFault) → i < length us → length ws₀ ≡ length us → i + length ws ≡ length us → words ≡ before + i → Read-so-far us ws₀ i ws cs → OneFault words (get_or us i d) ws e → Counts before us ws₀ (Err e)
+pub stopped : (us : List Measure) (ws₀ ws : List (List ℕ)) (cs : List ℕ) (i before words : ℕ) (d : Measure) (e : LineFault) → i < length us → length ws₀ ≡ length us → i + length ws ≡ length us → words ≡ before + i → ReadSoFar us ws₀ i ws cs → OneFault words (get_or us i d) ws e → Counts before us ws₀ (Err e)
 stopped us ws₀ ws cs i before words d Form l all left at so h = absurd (omega (arith, ap length h))
 stopped us ws₀ ws cs i before words d (Word k f) l all left at so h =
     let here : Faulty (drop i us) ws 0 f = rw (drop_more us i d l) (first_faulty (get_or us i d) (drop (i + 1) us) ws f h.0) in

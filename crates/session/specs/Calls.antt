@@ -1,13 +1,15 @@
 -- How each call is answered, and the state after it: the refusals are a list of tests, of which the first that applies counts.
-use Rattle.std.specs.Prelude.{ℕ, Bool, cond, not, ◌||◌, List, [], ◌∷◌, ◌++◌, length, is_some, Some, None, Ok, Err, filter, Option, Result, ◌==◌, nat_lt}
+use Rattle.std.specs.Prelude.{ℕ, Bool, false, cond, not, ◌||◌, List, [], ◌∷◌, ◌++◌, length, ℤ, is_some, Some, None, Ok, Err, filter, Option, Result, ◌==◌, nat_lt}
 use Rattle.capacity.specs.Tests.{answered, resulting}
 use Rattle.capacity.specs.Meaning.{Capacity, taken, noticed}
 use Rattle.capacity.specs.Answers.{take_tests, notice_tests}
 use Rattle.capacity.specs.declared.figures.Figures.{Figures}
 use Rattle.book.specs.declared.rows.Order.{Order}
+use Rattle.book.specs.declared.rows.OrderTerms.{OrderTerms}
 use Rattle.book.specs.Orders.{entered}
 use Rattle.book.specs.Places.{place, without, numbered, numbered_of, of_contract, not_of_contract}
-use Rattle.book.specs.Terms.{size_tests, slice_tests}
+use Rattle.book.specs.Ranks.{order_at}
+use Rattle.book.specs.Terms.{size_tests, bounds_tests, slice_tests, ill_sliced}
 use Rattle.matching.specs.declared.round.Round.TheVariants.{Regular, Batch}
 use Rattle.session.specs.declared.entries.Entry.{Entry}
 use Rattle.session.specs.declared.phases.Phase.TheVariants.{Under}
@@ -146,6 +148,51 @@ entering s p e =
       book = s.book ++ entered e.number e.member e.contract e.area e.terms ∷ [];
       capacity = s.capacity;
     })
+
+-- the order is newest, and a regular round under way with it as incoming
+abbrev pub after_entry : State → Entry → State
+after_entry s e = record {
+  number = s.number;
+  phase = Under (Regular e.contract e.number);
+  closed = s.closed;
+  book = s.book ++ entered e.number e.member e.contract e.area e.terms ∷ [];
+  capacity = s.capacity;
+}
+
+-- an order's terms with another limit and quantity
+abbrev pub terms_with : Order → ℤ → ℕ → OrderTerms
+terms_with o l q = record { kind = o.kind; side = o.side; limit = l; quantity = q; peak = o.peak; delta = o.delta }
+
+-- peak and delta of the order at a place, if it is one, do not go with the new limit and quantity
+abbrev pub ill_changed : List Order → ℤ → ℕ → Option ℕ → Bool
+ill_changed os l q None = false
+ill_changed os l q (Some k) = ill_sliced (order_at os k).kind (terms_with (order_at os k) l q)
+
+abbrev pub change_tests : State → ℕ → ℕ → ℕ → ℤ → ℕ → List Test
+change_tests s p n m l q =
+    pass_test s p
+    ∷ raised own (bounds_tests l q)
+    ++ unknown_test s n m
+    ∷ (ill_changed s.book l q (place (numbered_of n m) s.book), own 7)
+    ∷ []
+
+-- the order at a place, if it is one, becomes newest with a new limit and quantity, an iceberg with its first slice anew,
+-- and a regular round begins with it as incoming
+abbrev pub changed : State → ℤ → ℕ → Option ℕ → State
+changed s l q None = s
+changed s l q (Some k) =
+    let o = order_at s.book k in
+    record {
+      number = s.number;
+      phase = Under (Regular o.contract o.number);
+      closed = s.closed;
+      book = without s.book k ++ entered o.number o.member o.contract o.area (terms_with o l q) ∷ [];
+      capacity = s.capacity;
+    }
+
+-- a change of the order of a number and member
+abbrev pub changing : State → ℕ → ℕ → ℕ → ℤ → ℕ → Result (Unit {0}) Refusal × State
+changing s p n m l q = decided (change_tests s p n m l q) s (changed s l q (place (numbered_of n m) s.book))
 
 -- a register that came back, by its meaning, or the refusal with the session and the number on the pass
 module _ {R : Type 0} (meaning : R → Capacity) where

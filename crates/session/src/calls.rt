@@ -1,7 +1,7 @@
 // The calls on a session.
 ghost use Rattle.std.specs.Prelude.{◌≡◌, length};
 ghost use Rattle.session.specs.State.{state, fresh};
-ghost use Rattle.session.specs.Calls.{answer, begun, kept, shut, counted, requesting, noticing, withdrawing, closing, entering, ended, ending};
+ghost use Rattle.session.specs.Calls.{answer, begun, kept, shut, counted, requesting, noticing, withdrawing, closing, entering, changing, ended, ending};
 
 use crate::entries::Entry;
 use crate::passes::{Closing, QuietPass, Refused, RoundPass};
@@ -118,6 +118,28 @@ impl<R: Register> Session<R> {
         ensures pass { begun result ≡ pass.number }
     {
         match self.admit(pass.number, entry) {
+            Ok(()) => {
+                let QuietPass { number } = pass;
+                Ok(RoundPass { number })
+            }
+            Err(fault) => Err(Refused { fault, pass }),
+        }
+    }
+
+    // Gives an order by number and member another limit and quantity; it is newest, and a regular round begins with it as incoming.
+    pub fn change(
+        &mut self,
+        pass: QuietPass,
+        number: u32,
+        member: u32,
+        limit: i32,
+        quantity: u32,
+    ) -> Result<RoundPass, Refused<QuietPass>>
+        ensures answer { answer result ≡ (changing (state R.Register.meaning self.old) pass.number number member limit quantity).0 }
+        ensures after { state R.Register.meaning self.new ≡ (changing (state R.Register.meaning self.old) pass.number number member limit quantity).1 }
+        ensures pass { begun result ≡ pass.number }
+    {
+        match self.alter(pass.number, number, member, limit, quantity) {
             Ok(()) => {
                 let QuietPass { number } = pass;
                 Ok(RoundPass { number })

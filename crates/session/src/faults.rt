@@ -28,7 +28,7 @@ pub enum SessionFault {
     Unknown,
     // the book is full
     Full,
-    // there are too few places for the route
+    // there are too few places for the route, or lines for a view
     Places,
     // the register refuses
     Register(RegisterFault),

@@ -2,12 +2,14 @@
 #![tactic(auto)]
 
 mod calls;
+mod changes;
 mod checks;
 pub mod entries;
 pub mod faults;
 pub mod finishing;
 pub mod passes;
 pub mod phases;
+mod reading;
 mod settling;
 pub mod state;
 pub mod steps;

@@ -1,4 +1,4 @@
-// Two worked rounds: one that a grant opens, and one that goes to the better price across a border.
+// Worked rounds: one that a grant opens, one that goes to the better price across a border, and those of a changed iceberg.
 ghost use Rattle.std.specs.Prelude.{◌≡◌, Some};
 
 use crate::entries::Entry;
@@ -95,6 +95,26 @@ fn noticed(session: &mut Market, pass: QuietPass, to: u32) -> Result<QuietPass, 
     }
 }
 
+fn entered_on(
+    session: &mut Market,
+    pass: QuietPass,
+    number: u32,
+    area: u32,
+    terms: OrderTerms,
+) -> Result<RoundPass, Fail> {
+    let entry = Entry {
+        number,
+        member: 7,
+        contract: CONTRACT,
+        area,
+        terms,
+    };
+    match session.enter(pass, &entry) {
+        Ok(round) => Ok(round),
+        Err(_) => Err(Fail::new("entry refused")),
+    }
+}
+
 fn entered(
     session: &mut Market,
     pass: QuietPass,
@@ -111,16 +131,26 @@ fn entered(
         peak: 0,
         delta: 0,
     };
-    let entry = Entry {
-        number,
-        member: 7,
-        contract: CONTRACT,
-        area,
-        terms,
-    };
-    match session.enter(pass, &entry) {
+    entered_on(session, pass, number, area, terms)
+}
+
+// Changes order 1, to a limit and 120.
+fn changed(session: &mut Market, pass: QuietPass, limit: i32) -> Result<RoundPass, Fail> {
+    match session.change(pass, 1, 7, limit, 120) {
         Ok(round) => Ok(round),
-        Err(_) => Err(Fail::new("entry refused")),
+        Err(_) => Err(Fail::new("change refused")),
+    }
+}
+
+// Changes order 1 to less than its peak, and gives the number that this is refused by.
+fn refused_by(
+    session: &mut Market,
+    pass: QuietPass,
+    member: u32,
+) -> Result<(u32, QuietPass), Fail> {
+    match session.change(pass, 1, member, 4_000, 40) {
+        Err(Refused { fault, pass }) => Ok((fault.number(), pass)),
+        Ok(RoundPass { number: _ }) => Err(Fail::new("changed")),
     }
 }
 
@@ -171,5 +201,40 @@ fn better_price_across_the_border(rt: HostRuntime) -> Result<(), Fail> {
     assert_eq!(rt; trade.buyer, 2);
     assert_eq!(rt; trade.price, 6_000);
     assert_eq!(rt; session.resting(), 2);
+    Ok(())
+}
+
+#[test]
+fn changed_iceberg_is_newest(rt: HostRuntime) -> Result<(), Fail> {
+    let (mut session, pass) = Session::begin(7, ConnectorMap::new().into_register());
+    let terms = OrderTerms {
+        kind: Kind::Ice,
+        side: Side::Sell,
+        limit: 5_000,
+        quantity: 80,
+        peak: 50,
+        delta: 100,
+    };
+    let round = entered_on(&mut session, pass, 1, 0, terms)?;
+    let pass = done(&mut session, round)?;
+    let round = entered(&mut session, pass, 2, Side::Sell, 0, 4_000)?;
+    let pass = done(&mut session, round)?;
+    let (unknown, pass) = refused_by(&mut session, pass, 8)?;
+    let (slices, pass) = refused_by(&mut session, pass, 7)?;
+    assert_eq!(rt; unknown, 9);
+    assert_eq!(rt; slices, 7);
+    let round = changed(&mut session, pass, 4_000)?;
+    let pass = done(&mut session, round)?;
+    let round = entered(&mut session, pass, 3, Side::Buy, 0, 4_000)?;
+    let (trade, round) = stepped(&mut session, round)?;
+    let pass = done(&mut session, round)?;
+    assert_eq!(rt; trade.sell, 2);
+    let round = entered(&mut session, pass, 4, Side::Buy, 0, 3_000)?;
+    let pass = done(&mut session, round)?;
+    let round = changed(&mut session, pass, 3_000)?;
+    let trade = run_out(&mut session, round)?;
+    assert_eq!(rt; trade.sell, 1);
+    assert_eq!(rt; trade.quantity, 50);
+    assert_eq!(rt; session.resting(), 1);
     Ok(())
 }

@@ -12,7 +12,7 @@ use Rattle.routes.proofs.Unique.{one_route}
 use Rattle.trades.specs.declared.trade.Trade.{Trade}
 use Rattle.trades.specs.Deals.{traded_contract, price, Deals}
 
-pos_same : (a b : ℕ) → pos a ≡ pos b → a ≡ b
+pub pos_same : (a b : ℕ) → pos a ≡ pos b → a ≡ b
 pos_same a b e = cc
 
 -- trades with the same parts

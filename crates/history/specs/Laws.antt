@@ -1,0 +1,101 @@
+-- What no list of calls on a session, each answered by the rules, can make untrue.
+use Rattle.std.specs.Prelude.{◌≡◌, ℕ, ◌+◌, ◌≤◌, List, [], ◌∷◌, pos, ◌+ℤ◌, ◌-ℤ◌, ◌≤ℤ◌, Some, None, Ok, Err, Option, Result}
+use Rattle.book.specs.declared.rows.Side.TheVariants.{Buy, Sell}
+use Rattle.capacity.specs.Meaning.{Capacity, Sound, atc}
+use Rattle.routes.specs.Paths.{Path}
+use Rattle.flows.specs.Balance.{net_out}
+use Rattle.flows.specs.Flows.{OpenIn, NoneBelow}
+use Rattle.session.specs.declared.faults.SessionFault.{SessionFault}
+use Rattle.session.specs.declared.phases.Phase.TheVariants.{Quiet}
+use Rattle.session.specs.Rounds.{Logged}
+use Rattle.session.specs.State.{State}
+use Rattle.events.specs.declared.calls.Call.{Call}
+use Rattle.events.specs.declared.calls.Call.TheVariants.{Enter, Change, Withdraw, Request, Notice, Close}
+use Rattle.events.specs.declared.events.Answer.{Answer}
+use Rattle.events.specs.declared.events.Answer.TheVariants.{Refused, Accepted, Gone}
+use Rattle.events.specs.declared.events.StepAnswer.{StepAnswer}
+use Rattle.events.specs.declared.events.StepAnswer.TheVariants as step
+use Rattle.events.specs.declared.events.Event.{Event}
+use Rattle.events.specs.declared.events.Event.TheVariants.{Called, Stepped}
+use Rattle.events.specs.Events.{Happens, Answered, StepAnswered, logged}
+use Rattle.history.specs.History.{Reached}
+use Rattle.history.specs.Standing.{◌∈◌, Standing, limit_now, standing, sold, bought, granted_out, granted_in, steps, bound}
+
+-- a buy and a sell of one contract stand whose limits meet, with a path of open directions from the sell's area to the buy's
+pub record Meeting (m : Capacity) (l : List Standing) (b o : Standing) : Type 0 where
+  pub buy_stands : b ∈ l
+  pub sell_stands : o ∈ l
+  pub buys : b.given.terms.side ≡ Buy
+  pub sells : o.given.terms.side ≡ Sell
+  pub one_contract : b.given.contract ≡ o.given.contract
+  pub meet : limit_now o ≤ℤ limit_now b
+  pub leads : (xs : List ℕ) × Path (OpenIn m b.given.contract) o.given.area b.given.area xs
+
+-- while quiet, no such pair stands
+abbrev pub NoneLeft : List Event → State → Type 0
+NoneLeft h s = s.phase ≡ Quiet → (b o : Standing) → Meeting s.capacity (standing h) b o → ⊥
+
+-- the net use that an area carries out, less that at the start, is what it sold less what it bought, plus what was granted out of it less what was granted into it
+abbrev pub Balanced : Capacity → List Event → State → Type 0
+Balanced m h s =
+    (c a : ℕ)
+    → net_out s.capacity c a -ℤ net_out m c a
+    ≡ (pos (sold c a h) -ℤ pos (bought c a h)) +ℤ (pos (granted_out c a h) -ℤ pos (granted_in c a h))
+
+-- no direction that a call or a step used has an ATC below nought
+abbrev pub CoveredCall : Capacity → Call → Answer → Type 0
+CoveredCall m k (Refused f) = Unit {0}
+CoveredCall m (Request c a b q) Accepted = pos 0 ≤ℤ atc m c a b
+CoveredCall m (Enter e) Accepted = Unit {0}
+CoveredCall m (Change n i l q) Accepted = Unit {0}
+CoveredCall m (Withdraw n i) Accepted = Unit {0}
+CoveredCall m (Notice c a b f) Accepted = Unit {0}
+CoveredCall m (Close c) Accepted = Unit {0}
+CoveredCall m k (Gone n) = Unit {0}
+
+abbrev pub CoveredStep : Capacity → StepAnswer → Type 0
+CoveredStep m (step.Refused f) = Unit {0}
+CoveredStep m (step.Traded x places) = NoneBelow m x.contract (logged x places).route
+CoveredStep m step.Done = Unit {0}
+
+-- right after a trade or a grant
+abbrev pub Covered : List Event → State → Type 0
+Covered [] s = Unit {0}
+Covered (Called p k a ∷ h) s = CoveredCall s.capacity k a
+Covered (Stepped p z a ∷ h) s = CoveredStep s.capacity a
+
+-- a round has no more accepted steps than the smaller side had open as it began, plus one, and one that has had so many is done
+abbrev pub Bounded : List Event → State → Type 0
+Bounded h s = (steps h ≤ bound h + 1) × (steps h ≡ bound h + 1 → s.phase ≡ Quiet)
+
+pub record Lawful (m : Capacity) (h : List Event) (s : State) : Type 0 where
+  pub none_left : NoneLeft h s
+  pub balanced : Balanced m h s
+  pub covered : Covered h s
+  pub bounded : Bounded h s
+
+-- for every register, every session and every list of events
+abbrev pub LawsHold : Type 0
+LawsHold = (m : Capacity) (n : ℕ) (h : List Event) (s : State) → Sound m → Reached m n h s → Lawful m h s
+
+-- a history, lawful at every point of it
+abbrev pub Lawfully : Capacity → ℕ → List Event → State → Type 0
+Lawfully m n [] t = Reached m n [] t × Lawful m [] t
+Lawfully m n (e ∷ h) t = ((s : State) × Lawfully m n h s × Happens s e t) × Lawful m (e ∷ h) t
+
+-- at any state, two answers to one call made with a pass of number p are the same, and so are the states after it
+abbrev pub OneForCall : State → ℕ → Type 0
+OneForCall s p = (k : Call) (a b : Answer) (t u : State) → Answered s p k a t → Answered s p k b u → (a ≡ b) × (t ≡ u)
+
+-- what the answer of a step tells: why it was refused, the trade and its route, or that the round is done
+abbrev pub tells : StepAnswer → Result (Option Logged) SessionFault
+tells (step.Refused f) = Err f
+tells (step.Traded x places) = Ok (Some (logged x places))
+tells step.Done = Ok None
+
+-- the same of two steps over as many places; what a trade leaves in the places past its route is no part of the answer
+abbrev pub OneForStep : State → ℕ → Type 0
+OneForStep s p = (z : ℕ) (a b : StepAnswer) (t u : State) → StepAnswered s p z a t → StepAnswered s p z b u → (tells a ≡ tells b) × (t ≡ u)
+
+abbrev pub OneAnswer : Type 0
+OneAnswer = (s : State) (p : ℕ) → OneForCall s p × OneForStep s p
