@@ -16,7 +16,7 @@ use Rattle.events.specs.declared.calls.Call.TheVariants.{Enter, Change}
 use Rattle.events.specs.declared.events.Answer.TheVariants as answer
 use Rattle.events.specs.declared.events.Event.{Event}
 use Rattle.events.specs.declared.events.Event.TheVariants.{Called}
-use Rattle.history.specs.Standing.{◌∈◌, Standing, standing, smaller, traded_contract, anew}
+use Rattle.history.specs.Standing.{◌∈◌, Standing, standing, smaller, contract_of, anew}
 use Rattle.history.proofs.Accepted.{Enters, Changes}
 use Rattle.history.proofs.Agreeing.{Agree, agree_enter, agree_change}
 use Rattle.history.proofs.Bound.{contract_row}
@@ -73,9 +73,9 @@ module _ (m : Capacity) (h : List Event) (s : State) (inv : Inv m h s) where
     agree₂ : Agree (left ++ o₂ ∷ []) l₂
     agree₂ = agree_change n i l q s.book x.k (standing h) inv.agree inv.orderly x.there x.terms
 
-    begins : 0 + smaller o.contract l₂ ≤ smaller (traded_contract n l₂) l₂
+    begins : 0 + smaller o.contract l₂ ≤ smaller (contract_of n l₂) l₂
     begins =
-        let e : traded_contract n l₂ ≡ o.contract = ap (λ z. traded_contract z l₂) (sym its) ∙ contract_row (left ++ o₂ ∷ []) l₂ agree₂ orderly₂ o₂ (push_in o₂ left) in
+        let e : contract_of n l₂ ≡ o.contract = ap (λ z. contract_of z l₂) (sym its) ∙ contract_row (left ++ o₂ ∷ []) l₂ agree₂ orderly₂ o₂ (push_in o₂ left) in
         subst (λ c. 0 + smaller o.contract l₂ ≤ smaller c l₂) (sym e) (same_few (smaller o.contract l₂))
 
     pub after_change : Inv m (Called p (Change n i l q) answer.Accepted ∷ h) t

@@ -6,7 +6,7 @@ use Rattle.book.specs.declared.rows.Side.TheVariants.{Buy, Sell}
 use Rattle.book.specs.declared.rows.Order.{Order}
 use Rattle.book.specs.Orderly.{Orderly}
 use Rattle.trades.specs.declared.trade.Trade.{Trade}
-use Rattle.history.specs.Standing.{◌∈◌, Standing, still_open, has_number, with_trade, same_side, open_on, smaller, traded_contract}
+use Rattle.history.specs.Standing.{◌∈◌, Standing, still_open, has_number, with_trade, same_side, open_on, smaller, contract_of}
 use Rattle.history.proofs.Agreeing.{Agree}
 use Rattle.history.proofs.Numbered.{one_order}
 use Rattle.history.proofs.Rows.{traded_in}
@@ -97,20 +97,20 @@ smaller_after c x b s p l i j nb ns cb cs buys sells some lb ls =
     least a b a₂ b₂ a₃ b₃ q h k m n r = omega arith
 
 -- some order has the number n, and each that has it is of the contract c
-pub contract_is : (n c : ℕ) (l : List Standing) → ((w : Standing) → w ∈ l → w.given.number ≡ n → w.given.contract ≡ c) → (w : Standing) → w ∈ l → w.given.number ≡ n → traded_contract n l ≡ c
+pub contract_is : (n c : ℕ) (l : List Standing) → ((w : Standing) → w ∈ l → w.given.number ≡ n → w.given.contract ≡ c) → (w : Standing) → w ∈ l → w.given.number ≡ n → contract_of n l ≡ c
 contract_is n c [] h w i e = absurd i
 contract_is n c (x ∷ l) h w i e =
     elim (cases_eq x.given.number n) [
-      | inl g ↦ cond-true (has_number n x) x.given.contract (traded_contract n l) (eq-eqb x.given.number n g) ∙ h x (inl refl) g
+      | inl g ↦ cond-true (has_number n x) x.given.contract (contract_of n l) (eq-eqb x.given.number n g) ∙ h x (inl refl) g
       | inr g ↦
-          cond-false (has_number n x) x.given.contract (traded_contract n l) (ne_eqb x.given.number n g)
+          cond-false (has_number n x) x.given.contract (contract_of n l) (ne_eqb x.given.number n g)
           ∙ elim i [
             | inl k ↦ absurd (g (ap (λ (z : Standing). z.given.number) k ∙ e))
             | inr k ↦ contract_is n c l (λ v j. h v (inr j)) w k e
           ]
     ]
 
-pub contract_row : (book : List Order) (l : List Standing) → Agree book l → Orderly book → (o : Order) → o ∈ book → traded_contract o.number l ≡ o.contract
+pub contract_row : (book : List Order) (l : List Standing) → Agree book l → Orderly book → (o : Order) → o ∈ book → contract_of o.number l ≡ o.contract
 contract_row book l a orderly o h =
     let w = a.row o h in
     contract_is o.number o.contract l

@@ -135,9 +135,9 @@ abbrev pub smaller : ℕ → List Standing → ℕ
 smaller c l = min (open_on c Buy l) (open_on c Sell l)
 
 -- the contract of the order n
-abbrev pub traded_contract : ℕ → List Standing → ℕ
-traded_contract n [] = 0
-traded_contract n (x ∷ l) = cond (has_number n x) x.given.contract (traded_contract n l)
+abbrev pub contract_of : ℕ → List Standing → ℕ
+contract_of n [] = 0
+contract_of n (x ∷ l) = cond (has_number n x) x.given.contract (contract_of n l)
 
 abbrev pub is_made : StepAnswer → Bool
 is_made (step.Refused f) = false
@@ -153,7 +153,7 @@ steps (Stepped p z a ∷ h) = cond (is_made a) (steps h + 1) (steps h)
 -- what is open on the smaller side as a call begins a round, of the orders that stand then
 abbrev pub begins_with : Call → List Standing → ℕ
 begins_with (Enter e) l = smaller e.contract l
-begins_with (Change n m lim q) l = smaller (traded_contract n l) l
+begins_with (Change n m lim q) l = smaller (contract_of n l) l
 begins_with (Withdraw n m) l = 0
 begins_with (Request c a b q) l = smaller c l
 begins_with (Notice c a b f) l = smaller c l
