@@ -27,9 +27,9 @@ same_limit : (d : Side) (l : ℤ) → NoBetter d l l
 same_limit Buy l = omega (arith, ints)
 same_limit Sell l = omega (arith, ints)
 
-moved-worse : (d : Side) (l : ℤ) (n : ℕ) → NoBetter d (moved d l n) l
-moved-worse Buy l n = omega (arith, ints)
-moved-worse Sell l n = omega (arith, ints)
+moved_worse : (d : Side) (l : ℤ) (n : ℕ) → NoBetter d (moved d l n) l
+moved_worse Buy l n = omega (arith, ints)
+moved_worse Sell l n = omega (arith, ints)
 
 -- whether n is the number of the buy b or of the sell s
 abbrev pub traded_in : ℕ → ℕ → ℕ → Bool
@@ -44,8 +44,8 @@ lowered_later true q y = record { number = refl; contract = refl; side = refl; a
 lowered_later false q y = record { number = refl; contract = refl; side = refl; area = refl; kind = refl; limit = same_limit y.side y.limit }
 
 next_later : (t : Bool) (q : ℕ) (y : Order) → Later (next_slice (lowered t q y)) y
-next_later true q y = record { number = refl; contract = refl; side = refl; area = refl; kind = refl; limit = moved-worse y.side y.limit y.delta }
-next_later false q y = record { number = refl; contract = refl; side = refl; area = refl; kind = refl; limit = moved-worse y.side y.limit y.delta }
+next_later true q y = record { number = refl; contract = refl; side = refl; area = refl; kind = refl; limit = moved_worse y.side y.limit y.delta }
+next_later false q y = record { number = refl; contract = refl; side = refl; area = refl; kind = refl; limit = moved_worse y.side y.limit y.delta }
 
 -- x is the row y, lowered by q if t, as it shows still, or its next slice
 abbrev pub Comes : Bool → ℕ → Order → Order → Type 0
