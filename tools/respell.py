@@ -6,7 +6,6 @@ usage: python3 tools/respell.py [--list]        (once, at the top, right after /
 Names of src/ keep their spelling, and so do the names that Rattle makes (goals, steps, invariants, measures).
 """
 import glob
-import os
 import re
 import sys
 
