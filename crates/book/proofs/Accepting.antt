@@ -23,9 +23,9 @@ enough q p h = omega (arith, div-add-mod' (q - 1) p, mod-lt (q - 1) h)
 
 -- none of three tests applied
 none_of : (a b c : Bool) (x y z : ℕ) → cond a (Some x) (cond b (Some y) (cond c (Some z) None)) ≡ None → (a ≡ false) × (b ≡ false) × (c ≡ false)
-none_of true b c x y z e = absurd (let o : ◌≡◌ {A = ℕ} 0 1 = cc in omega arith)
-none_of false true c x y z e = absurd (let o : ◌≡◌ {A = ℕ} 0 1 = cc in omega arith)
-none_of false false true x y z e = absurd (let o : ◌≡◌ {A = ℕ} 0 1 = cc in omega arith)
+none_of true b c x y z e = cc
+none_of false true c x y z e = cc
+none_of false false true x y z e = cc
 none_of false false false x y z e = (refl, refl, refl)
 
 abbrev terms : Kind → Side → ℤ → ℕ → ℕ → ℕ → OrderTerms

@@ -1,35 +1,28 @@
 -- A list in the first places of an array.
-use Rattle.std.proofs.Common.{◌≡◌, ℕ, ◌+◌, ◌<◌, ◌≤◌, true, ltb, List, [], ◌∷◌, ◌++◌, length, get_or, take, set, ap, ◌∙◌, arith, length-take}
-use Rattle.std.proofs.lemmas.List.{get_or-take, take_more_set, take_all}
+use Rattle.std.proofs.Common.{◌≡◌, ℕ, ◌+◌, ◌-◌, ◌<◌, ◌≤◌, List, [], ◌∷◌, ◌++◌, length, take, drop, sym, ap, ◌∙◌, arith, length-take}
+use Rattle.std.proofs.lemmas.List.{take_at, take-take, take-append-drop, drop-take, length-drop}
 use Rattle.std.proofs.lemmas.Bool.{lt-ltb, cond-true}
-use Rattle.book.specs.Places.{appended}
+use Rattle.std.specs.List.{copy_within}
+use Rattle.std.proofs.lemmas.List.Edits.{take-paste}
+use Rattle.book.specs.Places.{appended, without}
 use Rattle.book.specs.declared.rows.Order.{Order}
-
-pub all_full : {X : Type 0} (xs : List X) (n : ℕ) → length xs ≤ n → length (take n xs) ≡ length xs
-all_full xs n h = simp length-take (omega arith)
-
--- an element of the front
-pub front_at : {X : Type 0} (xs : List X) (n i : ℕ) (d : X) → i < length (take n xs) → get_or (take n xs) i d ≡ get_or xs i d
-front_at xs n i d h =
-    let k : i < n = omega (arith, simp length-take at h) in
-    get_or-take n xs i d k
-
--- below the front's length it is as long as it says
-pub front_long : {X : Type 0} (xs : List X) (n : ℕ) → length (take n xs) < length xs → length (take n xs) ≡ n
-front_long xs n h = omega (arith, length-take n xs)
-
--- one more row
-pub one_more : (xs : List Order) (n k : ℕ) (o : Order) → length xs ≡ 128 → k ≡ length (take n xs) → k < 128 → take (k + 1) (set xs k o) ≡ appended (take n xs) o
-one_more xs n k o len e h =
-    let l : length (take n xs) ≡ n = front_long xs n (omega arith) in
-    let same : k ≡ n = omega arith in
-    let t : take (k + 1) (set xs k o) ≡ take k xs ++ o ∷ [] = take_more_set xs k o (omega arith) in
-    let y : ltb (length (take n xs)) 128 ≡ true = lt-ltb _ _ (omega arith) in
-    t ∙ simp (same, y)
 
 -- a row that has room
 pub with_room : (os : List Order) (o : Order) → length os < 128 → appended os o ≡ os ++ o ∷ []
 with_room os o h = cond-true _ _ _ (lt-ltb _ _ h)
 
-pub at_end : {X Y : Type 0} (F : List X → Y) (xs : List X) (i : ℕ) → length xs ≤ i → F (take i xs) ≡ F xs
-at_end F xs i h = ap F (take_all i xs h)
+-- the rows from `at` on moved one down, and one fewer
+pub taken_out : {X : Type 0} (xs : List X) (n k at : ℕ) → k ≡ length (take n xs) → at < k → take (k - 1) (copy_within xs (at + 1) k at) ≡ without (take n xs) at
+taken_out xs n k at e h =
+    let m : ℕ = k - (at + 1) in
+    let few : at ≤ length xs = omega (arith, length-take n xs) in
+    let rest : m ≤ length (drop (at + 1) xs) = omega (arith, length-take n xs, length-drop (at + 1) xs) in
+    let last : k - 1 ≡ at + m = omega arith in
+    let all : k ≡ at + 1 + m = omega arith in
+    let low : at ≤ k = omega arith in
+    let front : take n xs ≡ take k xs = sym (ap (take k) (sym (take-append-drop n xs)) ∙ take_at (take n xs) (drop n xs) k (sym e)) in
+    ap (λ j. take j (copy_within xs (at + 1) k at)) last
+    ∙ take-paste xs at (drop (at + 1) xs) m few rest
+    ∙ ap (λ r. r ++ take m (drop (at + 1) xs)) (sym (take-take at k xs low))
+    ∙ ap (λ r. take at (take k xs) ++ r) (sym (ap (λ j. drop (at + 1) (take j xs)) all ∙ drop-take (at + 1) m xs))
+    ∙ ap (λ r. without r at) (sym front)

@@ -1,11 +1,10 @@
 -- Rank is a strict order.
-use Rattle.std.proofs.Common.{◌≡◌, ℕ, ◌<◌, Bool, ◌⊎◌, List, length, get_or, take, ℤ, Decides, sym, ◌∙◌, subst, inl, inr, arith}
+use Rattle.std.proofs.Common.{◌≡◌, ℕ, ◌⊎◌, List, ℤ, ◌∙◌, inl, inr, arith}
 use Rattle.std.proofs.lemmas.Int.{ints}
 use Rattle.book.specs.declared.rows.Side.{Side}
 use Rattle.book.specs.declared.rows.Side.TheVariants.{Buy, Sell}
 use Rattle.book.specs.declared.rows.Order.{Order}
-use Rattle.book.specs.Ranks.{Sooner, Ahead, RanksAbove, Strict, order_at, blank}
-use Rattle.book.proofs.Fronts.{front_at}
+use Rattle.book.specs.Ranks.{Sooner, Ahead, Strict, order_at}
 
 sooner_not : (l : ℤ) (i : ℕ) → Sooner l l i i → ⊥
 sooner_not l i (inl h) = omega (arith, ints)
@@ -41,8 +40,8 @@ ahead_on Sell Sell Sell l k m i j n p q = sooner_on l k m i j n p q
 
 ahead_one : (a b : Side) (l k : ℤ) (i j : ℕ) → a ≡ b → (i ≡ j → ⊥) → Ahead a b l k i j ⊎ Ahead b a k l j i
 ahead_one Buy Buy l k i j e ne = sooner_one k l i j ne
-ahead_one Buy Sell l k i j e ne = absurd (let z : ◌≡◌ {A = ℕ} 0 1 = cc in omega arith)
-ahead_one Sell Buy l k i j e ne = absurd (let z : ◌≡◌ {A = ℕ} 0 1 = cc in omega arith)
+ahead_one Buy Sell l k i j e ne = cc
+ahead_one Sell Buy l k i j e ne = cc
 ahead_one Sell Sell l k i j e ne = sooner_one l k i j ne
 
 pub strict : (os : List Order) → Strict os
@@ -51,12 +50,3 @@ strict os = record {
   carries = λ i j k p q. (p.0, q.1, ahead_on (order_at os i).side (order_at os j).side (order_at os k).side (order_at os i).limit (order_at os j).limit (order_at os k).limit i j k p.2 q.2);
   one_of = λ i j h g e ne. elim (ahead_one (order_at os i).side (order_at os j).side (order_at os i).limit (order_at os j).limit i j e ne) [ inl a ↦ inl (h, g, a) | inr b ↦ inr (g, h, b) ];
 }
-
-pub rank_at : (xs : List Order) (n i j : ℕ) (r : Bool) → i < length (take n xs) → j < length (take n xs) → Decides r (Ahead (get_or xs i blank).side (get_or xs j blank).side (get_or xs i blank).limit (get_or xs j blank).limit i j) → Decides r (RanksAbove (take n xs) i j)
-rank_at xs n i j r h k e =
-    let a = front_at xs n i blank h in
-    let b = front_at xs n j blank k in
-    let P : Order → Order → Type 0 = λ x y. Ahead x.side y.side x.limit y.limit i j in
-    let Q : Order → Type 0 = λ x. P x (get_or xs j blank) in
-    let R : Order → Type 0 = P (get_or (take n xs) i blank) in
-    (λ t. (h, k, subst R (sym b) (subst Q (sym a) (e.0 t))), λ m. e.1 (subst Q a (subst R b m.2)))

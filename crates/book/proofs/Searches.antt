@@ -1,10 +1,8 @@
 -- What a search for the first place says.
-use Rattle.std.proofs.Common.{◌≡◌, ℕ, zero, suc, ◌+◌, ◌<◌, ◌≤◌, Bool, true, false, cond, List, [], ◌∷◌, length, get_or, take, drop, Some, None, Option, sym, refl, ap, ◌∙◌, subst, inl, inr, arith}
+use Rattle.std.proofs.Common.{◌≡◌, ℕ, suc, ◌+◌, ◌<◌, Bool, true, false, List, [], ◌∷◌, length, take, Some, None, Option, sym, subst, inl, inr, arith}
 use Rattle.std.specs.List.{HoldsAt, AllByRecursion}
 use Rattle.std.proofs.lemmas.Bool.{cond-true, cond-false, cases_Bool}
-use Rattle.book.specs.Places.{nth, place, place_from, Placed}
-use Rattle.std.proofs.lemmas.List.{at_drop_more, at_drop_all}
-use Rattle.book.proofs.Fronts.{front_at}
+use Rattle.book.specs.Places.{place, place_from, Placed}
 
 abbrev pub From : {X : Type 0} → (X → Bool) → ℕ → List X → Option ℕ → Type 0
 From p i xs None = AllByRecursion (λ x. p x ≡ false) xs
@@ -32,34 +30,5 @@ at_start {X} p xs (Some k) h =
 pub placed : {X : Type 0} (p : X → Bool) (xs : List X) → Placed p xs (place p xs)
 placed p xs = at_start p xs (place p xs) (from p 0 xs)
 
--- a read at a place
-pub nth_at : {X : Type 0} (xs : List X) (n i : ℕ) (d : X) → i < length (take n xs) → Some (get_or xs i d) ≡ nth (take n xs) i
-nth_at [] zero i d h = absurd (omega arith)
-nth_at [] (suc n) i d h = absurd (omega arith)
-nth_at (x ∷ xs) zero i d h = absurd (omega arith)
-nth_at (x ∷ xs) (suc n) zero d h = refl
-nth_at (x ∷ xs) (suc n) (suc i) d h = nth_at xs n i d (omega arith)
-
-pub nth_past : {X : Type 0} (xs : List X) (i : ℕ) → length xs ≤ i → None ≡ nth xs i
-nth_past [] i h = refl
-nth_past (x ∷ xs) zero h = absurd (omega arith)
-nth_past (x ∷ xs) (suc i) h = nth_past xs i (omega arith)
-
 pub placed_by : {X : Type 0} (p : X → Bool) (xs : List X) (o : Option ℕ) → o ≡ place p xs → Placed p xs o
 placed_by p xs o e = subst (Placed p xs) (sym e) (placed p xs)
-
--- the search for the first place, a step on
-pub found_here : {X : Type 0} (p : X → Bool) (xs : List X) (n i : ℕ) (d : X) → i < length (take n xs) → place_from p i (drop i (take n xs)) ≡ place p (take n xs) → p (get_or xs i d) ≡ true → Some i ≡ place p (take n xs)
-found_here p xs n i d h inv y =
-    let at : p (get_or (take n xs) i d) ≡ true = ap p (front_at xs n i d h) ∙ y in
-    let more : place_from p i (drop i (take n xs)) ≡ cond (p (get_or (take n xs) i d)) (Some i) (place_from p (i + 1) (drop (i + 1) (take n xs))) = at_drop_more (place_from p i) (take n xs) i d h in
-    sym (sym inv ∙ more ∙ cond-true _ _ _ at)
-
-pub found_later : {X : Type 0} (p : X → Bool) (xs : List X) (n i : ℕ) (d : X) → i < length (take n xs) → place_from p i (drop i (take n xs)) ≡ place p (take n xs) → p (get_or xs i d) ≡ false → place_from p (i + 1) (drop (i + 1) (take n xs)) ≡ place p (take n xs)
-found_later p xs n i d h inv y =
-    let at : p (get_or (take n xs) i d) ≡ false = ap p (front_at xs n i d h) ∙ y in
-    let more : place_from p i (drop i (take n xs)) ≡ cond (p (get_or (take n xs) i d)) (Some i) (place_from p (i + 1) (drop (i + 1) (take n xs))) = at_drop_more (place_from p i) (take n xs) i d h in
-    sym (cond-false _ _ _ at) ∙ sym more ∙ inv
-
-pub found_none : {X : Type 0} (p : X → Bool) (xs : List X) (i : ℕ) → length xs ≤ i → place_from p i (drop i xs) ≡ place p xs → None ≡ place p xs
-found_none p xs i h inv = sym (sym inv ∙ at_drop_all (place_from p i) xs i h)

@@ -1,9 +1,7 @@
 -- Icebergs as the rows that they are made from and written back to.
-use Rattle.std.specs.Prelude.{◌≡◌, Bool, true, false, ◌&&◌, Some, None, Option, nat_le, nat_lt}
+use Rattle.std.specs.Prelude.{◌≡◌, Bool, true, false, ◌&&◌, Some, None, Ok, Err, Option, Result, nat_le, nat_lt}
 use Rattle.book.specs.declared.rows.Order.{Order}
 use Rattle.book.specs.declared.iced.Iceberg.{Iceberg}
-use Rattle.book.specs.declared.iced.Left.{Left}
-use Rattle.book.specs.declared.iced.Left.TheVariants.{Showing, RunOut}
 use Rattle.book.specs.Orders.{is_ice}
 
 -- the row is an iceberg's: it shows at least 1, and never more than its peak or what is open
@@ -20,10 +18,10 @@ row_if None = None
 row_if (Some i) = Some i.order
 
 -- the row that a trade leaves, and whether it is still an iceberg's
-abbrev pub row_left : Left → Order
-row_left (Showing i) = i.order
-row_left (RunOut o) = o
+abbrev pub row_left : Result Iceberg Order → Order
+row_left (Ok i) = i.order
+row_left (Err o) = o
 
-abbrev pub is_showing : Left → Bool
-is_showing (Showing i) = true
-is_showing (RunOut o) = false
+abbrev pub is_showing : Result Iceberg Order → Bool
+is_showing (Ok i) = true
+is_showing (Err o) = false

@@ -1,6 +1,6 @@
 -- The book as the list of its orders, oldest first.
-use Rattle.std.specs.Prelude.{◌≡◌, ℕ, zero, suc, ◌+◌, ◌<◌, Bool, true, false, cond, not, ◌&&◌, List, [], ◌∷◌, ◌++◌, length, take, drop, Some, None, Option, ◌==◌, nat_lt}
-use Rattle.std.specs.List.{HoldsAt, AllByRecursion}
+use Rattle.std.specs.Prelude.{◌≡◌, ℕ, ◌+◌, ◌<◌, Bool, true, false, cond, not, ◌&&◌, List, [], ◌∷◌, ◌++◌, length, take, drop, Some, None, Option, ◌==◌, nat_lt, slice_get}
+use Rattle.std.specs.List.{HoldsAt, AllByRecursion, position_from}
 use Rattle.book.specs.declared.rows.Order.{Order}
 use Rattle.book.specs.declared.places.Book.{Book}
 use Rattle.book.specs.Refusals.{first_refusing}
@@ -19,9 +19,7 @@ appended os o = cond (nat_lt (length os) 128) (os ++ o ∷ []) os
 
 -- the order at a place
 abbrev pub nth : {X : Type 0} → List X → ℕ → Option X
-nth [] i = None
-nth (x ∷ xs) zero = Some x
-nth (x ∷ xs) (suc i) = nth xs i
+nth xs i = slice_get xs i
 
 -- the list without its element at i, all of it if there is none
 abbrev pub without : {X : Type 0} → List X → ℕ → List X
@@ -29,8 +27,7 @@ without xs i = take i xs ++ drop (i + 1) xs
 
 -- the first place, counted from i, whose order passes
 abbrev pub place_from : {X : Type 0} → (X → Bool) → ℕ → List X → Option ℕ
-place_from p i [] = None
-place_from p i (x ∷ xs) = cond (p x) (Some i) (place_from p (i + 1) xs)
+place_from p i xs = position_from p i xs
 
 abbrev pub place : {X : Type 0} → (X → Bool) → List X → Option ℕ
 place p xs = place_from p 0 xs

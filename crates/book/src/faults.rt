@@ -1,13 +1,13 @@
-// Why an order's terms, or one more order, are refused.
+// Why an order's terms, or one more order, are refused, by the numbers of the refusal sheet.
 ghost use Rattle.std.specs.Prelude.{◌≡◌};
 ghost use Rattle.book.specs.Refusals.{fault_number};
 
-#[derive(Clone, Copy)]
+#[derive(Clone, Copy, PartialEq, Eq)]
 pub enum BookFault {
-    Limit,
-    Quantity,
-    Slices,
-    Full,
+    Limit = 5,
+    Quantity = 6,
+    Slices = 7,
+    Full = 10,
 }
 
 impl BookFault {
@@ -15,11 +15,6 @@ impl BookFault {
     pub fn number(&self) -> u32
         ensures { result ≡ fault_number self.now }
     {
-        match self {
-            BookFault::Limit => 5,
-            BookFault::Quantity => 6,
-            BookFault::Slices => 7,
-            BookFault::Full => 10,
-        }
+        *self as u32
     }
 }

@@ -13,9 +13,3 @@ pub(crate) struct Iceberg {
     ghost peaked: { order.shown ≤ order.peak },
     ghost within: { order.shown ≤ order.«open» },
 }
-
-// What a trade leaves: an iceberg while some is shown, and else a row that is none until its next slice.
-pub(crate) enum Left {
-    Showing(Iceberg),
-    RunOut(Order),
-}

@@ -1,9 +1,11 @@
 // The book: the orders of all contracts, oldest first.
-ghost use Rattle.std.specs.Prelude.{◌≡◌, ◌≤◌, [], length, None};
+ghost use Rattle.std.specs.Prelude.{◌≡◌, ◌≤◌, Bool, [], length, None};
+ghost use Rattle.std.specs.Fn.{FnReturnsAt};
 ghost use Rattle.std.specs.List.{filter};
 ghost use Rattle.book.specs.Orderly.{Fit, Orderly};
 ghost use Rattle.book.specs.Orders.{rests};
 ghost use Rattle.book.specs.Refusals.{told};
+ghost use Rattle.book.specs.declared.rows.Order.{Order};
 ghost use Rattle.book.specs.Places.{orders, append_refusal, appended, nth, without, place, Placed, numbered, numbered_of, of_contract, not_of_contract};
 
 use crate::faults::BookFault;
@@ -12,9 +14,11 @@ use crate::rows::{Kind, Order, Side};
 const PLACES: usize = 128;
 
 // An order's place is its age: it stands in the first `len` rows, after all older ones.
+// A rule of the project: no heap, so the rows are an array with a length, in a plain struct.
+// That it is Orderly is no ghost field: `append` takes any order, and may ask no more of its callers.
 #[derive(Clone, Copy)]
 pub struct Book {
-    pub(crate) rows: [Order; 128],
+    pub(crate) rows: [Order; PLACES],
     pub(crate) len: usize,
 }
 
@@ -38,7 +42,7 @@ impl Book {
         ensures { orders result ≡ [] }
     {
         Book {
-            rows: [NO_ORDER; 128],
+            rows: [NO_ORDER; PLACES],
             len: 0,
         }
     }
@@ -48,20 +52,22 @@ impl Book {
         ensures count { result ≡ length (orders self.now) }
         ensures room { result ≤ 128 }
     {
-        let rows: &[Order] = &self.rows;
-        if self.len < rows.len() {
-            self.len
-        } else {
-            rows.len()
-        }
+        self.len.min(PLACES)
+    }
+
+    // The orders as they stand in the rows.
+    pub(crate) fn in_use(&self) -> &[Order]
+        ensures items { result.now ≡ orders self.now }
+        ensures room { length result.now ≤ 128 }
+    {
+        &self.rows[..self.len()]
     }
 
     // The order at a place.
     pub fn order(&self, at: usize) -> Option<Order>
         ensures { result ≡ nth (orders self.now) at }
     {
-        let n = self.len();
-        if at < n { Some(self.rows[at]) } else { None }
+        self.in_use().get(at).copied()
     }
 
     // The place of the order with this number, the oldest if there were several.
@@ -69,29 +75,18 @@ impl Book {
         ensures answer { result ≡ place (numbered number) (orders self.now) }
         ensures placed { Placed (numbered number) (orders self.now) result }
     {
-        let n = self.len();
-        for i in 0..n {
-            let row = self.rows[i];
-            if row.number == number {
-                return Some(i);
-            }
-        }
-        None
+        self.in_use().iter().position(|row| row.number == number)
     }
 
     // The place of the order with this number and member.
+    // The two stay apart: entries and changes hold them among others, and a struct of the two would be made for a withdrawal alone.
     pub fn find_of(&self, number: u32, member: u32) -> Option<usize>
         ensures answer { result ≡ place (numbered_of number member) (orders self.now) }
         ensures placed { Placed (numbered_of number member) (orders self.now) result }
     {
-        let n = self.len();
-        for i in 0..n {
-            let row = self.rows[i];
-            if row.number == number && row.member == member {
-                return Some(i);
-            }
-        }
-        None
+        self.in_use()
+            .iter()
+            .position(|row| row.number == number && row.member == member)
     }
 
     // Makes `order` the newest, if there is a place.
@@ -116,11 +111,21 @@ impl Book {
         ensures orderly { Orderly (orders self.old) → Orderly (orders self.new) }
     {
         let n = self.len();
+        if at < n {
+            self.rows.copy_within(at + 1..n, at);
+            self.len = n - 1;
+        }
+    }
+
+    // Keeps the orders that pass a test.
+    pub(crate) fn retain<F: Fn(&Order) -> bool>(&mut self, keep: F)
+        requires { F.IsAlwaysCallable keep }
+        ensures { (p : Order → Bool) → ((o : Order) (r : Bool) → FnReturnsAt F.Fn keep o r → r ≡ p o) → orders self.new ≡ filter p (orders self.old) }
+    {
         let mut left = Book::new();
-        for i in 0..n {
-            let kept = self.rows[i];
-            if i != at {
-                let _ = left.append(kept);
+        for row in self.in_use() {
+            if keep(row) {
+                let _ = left.append(*row);
             }
         }
         *self = left;
@@ -131,15 +136,7 @@ impl Book {
         ensures after { orders self.new ≡ filter (rests incoming) (orders self.old) }
         ensures orderly { Orderly (orders self.old) → Orderly (orders self.new) }
     {
-        let n = self.len();
-        let mut left = Book::new();
-        for i in 0..n {
-            let row = self.rows[i];
-            if row.rests(incoming) {
-                let _ = left.append(row);
-            }
-        }
-        *self = left;
+        self.retain(|row| row.rests(incoming));
     }
 
     // Takes the orders of a contract out and answers how many there were.
@@ -148,18 +145,8 @@ impl Book {
         ensures after { orders self.new ≡ filter (not_of_contract contract) (orders self.old) }
         ensures orderly { Orderly (orders self.old) → Orderly (orders self.new) }
     {
-        let n = self.len();
-        let mut left = Book::new();
-        let mut gone: usize = 0;
-        for i in 0..n {
-            let row = self.rows[i];
-            if row.contract == contract {
-                gone += 1;
-            } else {
-                let _ = left.append(row);
-            }
-        }
-        *self = left;
-        gone
+        let before = self.len();
+        self.retain(|row| row.contract != contract);
+        before - self.len()
     }
 }

@@ -1,14 +1,14 @@
 // Orders as plain rows, and the terms that they are entered with.
 
 // Which way an order trades.
-#[derive(Clone, Copy)]
+#[derive(Clone, Copy, PartialEq, Eq)]
 pub enum Side {
     Buy,
     Sell,
 }
 
 // NON rests when unmatched, IOC never rests, ICE is an iceberg, which shows a slice at a time.
-#[derive(Clone, Copy)]
+#[derive(Clone, Copy, PartialEq, Eq)]
 pub enum Kind {
     Non,
     Ioc,
@@ -16,7 +16,7 @@ pub enum Kind {
 }
 
 // What a member asks for; peak and delta are an iceberg's.
-#[derive(Clone, Copy)]
+#[derive(Clone, Copy, PartialEq, Eq)]
 pub struct OrderTerms {
     pub kind: Kind,
     pub side: Side,
@@ -27,7 +27,7 @@ pub struct OrderTerms {
 }
 
 // An order as it stands in the book.
-#[derive(Clone, Copy)]
+#[derive(Clone, Copy, PartialEq, Eq)]
 pub struct Order {
     pub number: u32,
     pub member: u32,

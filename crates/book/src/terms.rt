@@ -6,7 +6,7 @@ ghost use Rattle.book.specs.Refusals.{told};
 ghost use Rattle.book.specs.Terms.{size_refusal, bounds_refusal, slice_refusal, ill_sliced, refusal};
 
 use crate::faults::BookFault;
-use crate::rows::{Kind, Order, OrderTerms, Side};
+use crate::rows::{Kind, Order, OrderTerms};
 use crate::slices::{beyond, moved};
 
 const QUANTITY_MIN: u32 = 1;
@@ -21,15 +21,13 @@ const DELTA_MAX: u32 = 500;
 pub fn check_bounds(limit: i32, quantity: u32) -> Result<(), BookFault>
     ensures { told result ≡ bounds_refusal limit quantity }
 {
-    let plain = OrderTerms {
-        kind: Kind::Non,
-        side: Side::Buy,
-        limit,
-        quantity,
-        peak: 0,
-        delta: 0,
-    };
-    plain.check_size()
+    if beyond(i64::from(limit)) {
+        Err(BookFault::Limit)
+    } else if !(QUANTITY_MIN..=QUANTITY_MAX).contains(&quantity) {
+        Err(BookFault::Quantity)
+    } else {
+        Ok(())
+    }
 }
 
 impl OrderTerms {
@@ -37,32 +35,26 @@ impl OrderTerms {
     fn ill_sliced(&self) -> bool
         ensures { result ≡ ill_sliced self.now.kind self.now }
     {
-        match self.kind {
-            Kind::Ice => {
-                if self.peak < PEAK_MIN || self.quantity < self.peak {
-                    true
-                } else if DELTA_MAX < self.delta {
-                    true
-                } else {
-                    let further = (self.quantity - 1) / self.peak;
-                    beyond(moved(self.side, self.limit, self.delta as u64 * further as u64))
-                }
-            }
-            _ => !(self.peak == 0 && self.delta == 0),
+        if self.kind != Kind::Ice {
+            return self.peak != 0 || self.delta != 0;
         }
+        if self.peak < PEAK_MIN || self.quantity < self.peak || DELTA_MAX < self.delta {
+            return true;
+        }
+        let further = (self.quantity - 1) / self.peak;
+        moved(
+            self.side,
+            self.limit,
+            u64::from(self.delta) * u64::from(further),
+        )
+        .is_none()
     }
 
     // Refuses a limit, then a quantity, out of range.
     pub fn check_size(&self) -> Result<(), BookFault>
         ensures { told result ≡ size_refusal self.now }
     {
-        if beyond(self.limit as i64) {
-            Err(BookFault::Limit)
-        } else if self.quantity < QUANTITY_MIN || QUANTITY_MAX < self.quantity {
-            Err(BookFault::Quantity)
-        } else {
-            Ok(())
-        }
+        check_bounds(self.limit, self.quantity)
     }
 
     // Refuses a peak or a delta that does not go with the rest, or a last slice whose limit is out of range.
@@ -89,8 +81,8 @@ impl OrderTerms {
         ensures { result ≡ first_slice self.now.kind self.now.peak self.now.quantity }
     {
         match self.kind {
+            Kind::Non | Kind::Ioc => self.quantity,
             Kind::Ice => self.peak.min(self.quantity),
-            _ => self.quantity,
         }
     }
 }

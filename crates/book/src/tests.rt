@@ -36,11 +36,7 @@ fn next_slices_are_the_newest(rt: HostRuntime) -> Result<(), Fail> {
 #[test]
 fn last_slice_in_range(rt: HostRuntime) -> Result<(), Fail> {
     assert!(rt; sell(Kind::Ice, 999_998, 100, 50, 1).check().is_ok());
-    match sell(Kind::Ice, 999_998, 101, 50, 1).check() {
-        Ok(()) => Err(Fail::new("accepted")),
-        Err(fault) => {
-            assert_eq!(rt; fault.number(), 7);
-            Ok(())
-        },
-    }
+    let third = sell(Kind::Ice, 999_998, 101, 50, 1).check();
+    assert_eq!(rt; third.map_err(|fault| fault.number()), Err(7));
+    Ok(())
 }

@@ -11,51 +11,34 @@ ghost use Rattle.book.specs.Examples.{Examples};
 
 use crate::iced::Iceberg;
 use crate::places::Book;
+use crate::rows::Order;
 
 impl Book {
     // Trades `quantity` off the orders with these numbers, each in its place.
+    #[tactic(auto, using(crate::proofs::Striking::mark))]
     fn strike(&mut self, buy: u32, sell: u32, quantity: u32)
         ensures { orders self.new ≡ map (struck buy sell quantity) (orders self.old) }
     {
         let n = self.len();
-        for i in 0..n {
-            let row = self.rows[i];
-            if row.number == buy || row.number == sell {
-                self.rows[i] = row.traded(quantity);
-            }
+        for row in &mut self.rows[..n] {
+            *row = row.struck(buy, sell, quantity);
         }
-    }
-
-    // A book of what still shows, in its order.
-    fn showing(&self) -> Book
-        ensures { orders result ≡ filter shows (orders self.now) }
-    {
-        let n = self.len();
-        let mut left = Book::new();
-        for i in 0..n {
-            let kept = self.rows[i];
-            if kept.shows() {
-                let _ = left.append(kept);
-            }
-        }
-        left
     }
 
     // Keeps what shows, and makes the next slices of what has run out the newest, the older order's first.
     fn renew(&mut self)
         ensures { orders self.new ≡ renewed_by renewable (orders self.old) }
     {
-        let n = self.len();
-        let mut left = self.showing();
-        for i in 0..n {
-            let row = self.rows[i];
-            if let Some(next) = Iceberg::renewed(&row) {
-                let _ = left.append(next.row());
+        let before = *self;
+        self.retain(Order::shows);
+        for row in before.in_use() {
+            if let Some(next) = Iceberg::renewed(row) {
+                let _ = self.append(next.order);
             }
         }
-        *self = left;
     }
 
+    // Three numbers, as a trade's own struct stands in a higher crate.
     // A trade between two orders: what still shows keeps its age, what is used up leaves, the next slices become the newest.
     pub fn trade(&mut self, buy: u32, sell: u32, quantity: u32)
         ensures after { AllByRecursion Fit (orders self.old) → orders self.new ≡ settled buy sell quantity (orders self.old) }

@@ -2,7 +2,10 @@
 pub mod Lists
 pub mod Passes
 pub mod Puts
-pub mod Links
+pub mod Pairs
+pub mod Sided
 pub mod Filled
+pub mod Calls
+pub mod Links
 pub mod Layers
 pub mod Quotes

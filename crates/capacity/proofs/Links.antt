@@ -91,15 +91,6 @@ count_set js x y p q ne len f =
 pub none_kept : (n a b : ℕ) → kept_in (replicate n 0) a b ≡ 0
 none_kept n a b = rw get_d_same (grind (arith, nat_tests))
 
-pub kept_set : (ks : List ℕ) (x y v : ℕ) → x ≤ 15 → y ≤ 15 → length ks ≡ 256 → (a b : ℕ) → kept_in (set ks (16 * x + y) v) a b ≡ cond (is_way x y a b) v (kept_in ks a b)
-kept_set ks x y v p q len a b =
-    ⊎_elim
-    (λ (e : 16 * a + b ≡ 16 * x + y).
-    let s = get_or-set_same ks (16 * x + y) v 0 (omega arith) in rw (e, s) (grind (arith, nat_tests)))
-    (λ (e : 16 * a + b ≡ 16 * x + y → ⊥).
-    let s = get_or-set_other ks (16 * x + y) (16 * a + b) v 0 e in rw s (grind (arith, nat_tests)))
-    (cases_eq (16 * a + b) (16 * x + y))
-
 -- ---- a connector that no test refuses
 
 pub connect_passes : (m : Network) (x y v w : ℕ) → v ≤ 99999 → w ≤ 99999 → x ≤ 15 → y ≤ 15 → (x ≡ y → ⊥) → m.joins x y ≡ false → connectors m.joins < 32 → Passes (connect_tests m x y v w)

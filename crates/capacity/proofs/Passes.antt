@@ -1,5 +1,5 @@
 -- A call that no test refuses, and one that some test does.
-use Rattle.std.proofs.Common.{◌≡◌, ℕ, Bool, true, false, List, [], ◌∷◌, Ok, Err, refl, arith}
+use Rattle.std.proofs.Common.{◌≡◌, Bool, true, false, List, [], ◌∷◌, Ok, Err, refl}
 use Rattle.capacity.specs.Tests.{answered, resulting}
 
 -- none of the tests applies
@@ -17,16 +17,10 @@ passes_resulting (t ∷ ts) m n h = rw h.0 (passes_resulting ts m n h.1)
 
 pub answered_passes : {T : Type 0} (ts : List (Bool × T)) → Ok tt ≡ answered ts → Passes ts
 answered_passes [] e = tt
-answered_passes ((true, x) ∷ ts) e = let z : ◌≡◌ {A = ℕ} 0 1 = cc in absurd (omega arith)
+answered_passes ((true, x) ∷ ts) e = absurd cc
 answered_passes ((false, x) ∷ ts) e = (refl, answered_passes ts e)
 
 pub refused_resulting : {T S : Type 0} (ts : List (Bool × T)) (x : T) (m n : S) → Err x ≡ answered ts → m ≡ resulting ts m n
-refused_resulting [] x m n e = let z : ◌≡◌ {A = ℕ} 0 1 = cc in absurd (omega arith)
+refused_resulting [] x m n e = absurd cc
 refused_resulting ((true, y) ∷ ts) x m n e = refl
 refused_resulting ((false, y) ∷ ts) x m n e = refused_resulting ts x m n e
-
--- what stands after the call, seen through f
-pub seen_resulting : {T S U : Type 0} (f : S → U) (ts : List (Bool × T)) (m n : S) → f (resulting ts m n) ≡ resulting ts (f m) (f n)
-seen_resulting f [] m n = refl
-seen_resulting f ((true, y) ∷ ts) m n = refl
-seen_resulting f ((false, y) ∷ ts) m n = seen_resulting f ts m n

@@ -1,17 +1,12 @@
 -- Figures by direction with one connector's two replaced: there, back, and elsewhere.
-use Rattle.std.proofs.Common.{◌≡◌, ℕ, Bool, true, false, ◌&&◌, eqb, sym, refl, ⊎_elim}
+use Rattle.std.proofs.Common.{◌≡◌, ℕ, Bool, true, false, cond, ◌&&◌, eqb, sym, refl, ap, ◌∙◌, ⊎_elim}
+use mathlib.Core.Path.{fun_ext}
+use Rattle.std.proofs.Math.Bool.{and_comm}
 use Rattle.std.proofs.lemmas.Bool.{cases_Bool, and_parts, and_from, eqb-true, eq-eqb}
 use Rattle.capacity.specs.Directions.{is_way_in, put}
 
-turned : (p q r : Bool) → (p && (q && r)) ≡ (p && (r && q))
-turned false q r = refl
-turned true false false = refl
-turned true false true = refl
-turned true true false = refl
-turned true true true = refl
-
 pub way_back : (k x y c a b : ℕ) → is_way_in k x y c b a ≡ is_way_in k y x c a b
-way_back k x y c a b = turned (eqb c k) (eqb b x) (eqb a y)
+way_back k x y c a b = ap (λ t. eqb c k && t) (and_comm (eqb b x) (eqb a y))
 
 pub same_way : (k x y c a b : ℕ) → is_way_in k x y c a b ≡ true → (c ≡ k) × (a ≡ x) × (b ≡ y)
 same_way k x y c a b e =
@@ -50,3 +45,24 @@ by_way P k x y there back other c a b =
     (λ (f : is_way_in k y x c a b ≡ false). other c a b e f)
     (cases_Bool (is_way_in k y x c a b)))
     (cases_Bool (is_way_in k x y c a b))
+
+-- a field of what is put
+pub put_field : {X Y : Type 0} (g : X → Y) (f : ℕ → ℕ → ℕ → X) (k x y : ℕ) (v w : X) (c a b : ℕ) → g (put f k x y v w c a b) ≡ put (λ d p q. g (f d p q)) k x y (g v) (g w) c a b
+put_field {X} {Y} g f k x y v w c a b = field (is_way_in k x y c a b) (is_way_in k y x c a b) (f c a b)
+  where
+    field : (p q : Bool) (z : X) → g (cond p v (cond q w z)) ≡ cond p (g v) (cond q (g w) (g z))
+    field true q z = refl
+    field false true z = refl
+    field false false z = refl
+
+-- putting what stands there already
+pub put_same : {X : Type 0} (f : ℕ → ℕ → ℕ → X) (k x y : ℕ) (v w : X) → (x ≡ y → ⊥) → f k x y ≡ v → f k y x ≡ w → (c a b : ℕ) → put f k x y v w c a b ≡ f c a b
+put_same f k x y v w ne e g =
+    by_way (λ c a b. put f k x y v w c a b ≡ f c a b) k x y
+    (put_there f k x y v w ∙ sym e)
+    (put_back f k x y v w ne ∙ sym g)
+    (λ c a b. put_else f k x y v w c a b)
+
+-- two functions of a direction that agree everywhere
+pub each : {X : Type 0} (f g : ℕ → ℕ → ℕ → X) → ((c a b : ℕ) → f c a b ≡ g c a b) → f ≡ g
+each f g h = fun_ext (λ c. fun_ext (λ a. fun_ext (λ b. h c a b)))

@@ -16,10 +16,14 @@ take_tests m c a b q =
     ∷ (int_lt (atc m c a b) (pos q), refusal 13 c a b (Some (atc m c a b)))
     ∷ []
 
+-- whether a figure is above 99,999
+abbrev pub large : Figures → Bool
+large f = (nat_lt 99999 f.ntc || nat_lt 99999 f.ntc_back) || (nat_lt 99999 f.aac || nat_lt 99999 f.aac_back)
+
 abbrev pub notice_tests : Capacity → ℕ → ℕ → ℕ → Figures → List (Bool × Refusal)
 notice_tests m c a b f =
     (nat_lt 23 c, refusal 2 c a b None)
     ∷ (not (m.joins a b), refusal 11 c a b None)
-    ∷ ((nat_lt 99999 f.ntc || nat_lt 99999 f.ntc_back) || (nat_lt 99999 f.aac || nat_lt 99999 f.aac_back), refusal 12 c a b None)
+    ∷ (large f, refusal 12 c a b None)
     ∷ (not (m.noted c a b) && (m.room == 0), refusal 14 c a b None)
     ∷ []

@@ -17,12 +17,12 @@ abbrev pub refusal : ℕ → ℕ → ℕ → ℕ → Option ℤ → Refusal
 refusal n c a b z = record { number = n; contract = c; from = a; to = b; short_of = z }
 
 abbrev pub told : RegisterFault → Refusal
-told (Contract c a b) = refusal 2 c a b None
-told (Quantity c a b) = refusal 6 c a b None
-told (Unjoined c a b) = refusal 11 c a b None
-told (Figure c a b) = refusal 12 c a b None
-told (Short c a b z) = refusal 13 c a b (Some z)
-told (Full c a b) = refusal 14 c a b None
+told (Contract d) = refusal 2 d.contract d.from d.to None
+told (Quantity d) = refusal 6 d.contract d.from d.to None
+told (Unjoined d) = refusal 11 d.contract d.from d.to None
+told (Figure d) = refusal 12 d.contract d.from d.to None
+told (Short d z) = refusal 13 d.contract d.from d.to (Some z)
+told (Full d) = refusal 14 d.contract d.from d.to None
 
 -- A map's refusal.
 pub record MapRefusal : Type 0 where

@@ -19,7 +19,7 @@ abbrev pub network_of : ConnectorMap → Network
 network_of m = record { joins = joins_of m.links; kept = kept_of m.wishes }
 
 abbrev pub table_of : FullTable → Capacity
-table_of t = full (joins_of t.links) t.ntc t.aac t.used
+table_of t = full (joins_of t.links) t.sides
 
 -- a layer over a register with the meaning m
 abbrev pub layered : {R : Type 0} → (R → Capacity) → Reserve R → Capacity

@@ -1,6 +1,8 @@
 -- How the crate's tables lie in memory: plain lists, read by direction.
 use Rattle.std.specs.Prelude.{ℕ, ◌+◌, ◌*◌, min, max, Bool, false, cond, ◌&&◌, List, pos, ◌-ℤ◌, nat_le, nat_lt, slice_index, slice_index_or}
+use Rattle.capacity.specs.declared.side.Side.{Side}
 use Rattle.capacity.specs.Meaning.{Capacity}
+use Rattle.capacity.specs.Sides.{no_side}
 
 -- whether a connector joins a and b: each pair stands at its lower area first
 abbrev pub linked : List Bool → ℕ → ℕ → Bool
@@ -18,20 +20,29 @@ on j c a b = nat_le c 23 && j a b
 abbrev pub place : ℕ → ℕ → ℕ → ℕ
 place c a b = 256 * c + (16 * a + b)
 
-abbrev pub figure : (ℕ → ℕ → Bool) → List ℕ → ℕ → ℕ → ℕ → ℕ
-figure j xs c a b = cond (on j c a b) (slice_index xs (place c a b)) 0
+-- what stands at a place of a table
+abbrev pub side_at : List Side → ℕ → ℕ → ℕ → Side
+side_at ss c a b = slice_index_or ss (place c a b) no_side
 
--- what a full table holds: NTC, AAC and what was used in each direction beyond the other
-abbrev pub full : (ℕ → ℕ → Bool) → List ℕ → List ℕ → List ℕ → Capacity
-full j ns ls us = record {
+-- one side of a pair, if the pair exists
+abbrev pub shown : (ℕ → ℕ → Bool) → (ℕ → ℕ → ℕ → Side) → ℕ → ℕ → ℕ → Side
+shown j s c a b = cond (on j c a b) (s c a b) no_side
+
+-- a register with the sides s of the pairs that exist: NTC, AAC and what was used in each direction beyond the other
+abbrev pub sided : (ℕ → ℕ → Bool) → (ℕ → ℕ → ℕ → Side) → (ℕ → ℕ → ℕ → Bool) → ℕ → Capacity
+sided j s d n = record {
   joins = j;
-  ntc = figure j ns;
-  aac = figure j ls;
+  ntc = λ c a b. (shown j s c a b).ntc;
+  aac = λ c a b. (shown j s c a b).aac;
   held = λ c a b. 0;
-  net = λ c a b. pos (figure j us c a b) -ℤ pos (figure j us c b a);
-  noted = on j;
-  room = 0;
+  net = λ c a b. pos (shown j s c a b).used -ℤ pos (shown j s c b a).used;
+  noted = d;
+  room = n;
 }
+
+-- what a full table holds
+abbrev pub full : (ℕ → ℕ → Bool) → List Side → Capacity
+full j ss = sided j (side_at ss) (on j) 0
 
 -- every pair noted, all figures and use at nought, nothing held
 abbrev pub fresh : (ℕ → ℕ → Bool) → Capacity

@@ -1,39 +1,57 @@
-// The tests of a take, for any register that knows its own ATC.
-ghost use Rattle.std.specs.Prelude.{◌≡◌};
+// The tests of a take and of a notice, for any register.
+ghost use Rattle.std.specs.Prelude.{◌≡◌, ◌≤◌, true, not, ◌&&◌, ◌==◌};
 ghost use Rattle.capacity.specs.Tests.{answered, said};
 ghost use Rattle.capacity.specs.Faults.{told};
 ghost use Rattle.capacity.specs.Meaning.{Capacity, atc};
-ghost use Rattle.capacity.specs.Answers.{asked, take_tests};
+ghost use Rattle.capacity.specs.Answers.{asked, take_tests, notice_tests};
 
+use crate::direction::Direction;
 use crate::faults::RegisterFault;
+use crate::figures::Figures;
 use crate::limits::{LAST_CONTRACT, TOP_FIGURE};
 
 // `flow` is what the register answers when asked for the ATC.
-pub(crate) fn check_take(
-    contract: u32,
-    from: u32,
-    to: u32,
+pub fn check_take(
+    direction: Direction,
     quantity: u32,
     flow: Option<i32>,
 ) -> Result<(), RegisterFault>
-    ensures { (m : Capacity) → flow ≡ asked m contract from to (atc m contract from to) → said told result ≡ answered (take_tests m contract from to quantity) }
+    ensures { (m : Capacity) → flow ≡ asked m direction.contract direction.from direction.to (atc m direction.contract direction.from direction.to) → said told result ≡ answered (take_tests m direction.contract direction.from direction.to quantity) }
 {
-    if contract > LAST_CONTRACT {
-        return Err(RegisterFault::Contract { contract, from, to });
+    if direction.contract > LAST_CONTRACT {
+        return Err(RegisterFault::Contract(direction));
     }
-    if quantity < 1 || quantity > TOP_FIGURE {
-        return Err(RegisterFault::Quantity { contract, from, to });
+    if !(1..=TOP_FIGURE).contains(&quantity) {
+        return Err(RegisterFault::Quantity(direction));
     }
-    let Some(atc) = flow else {
-        return Err(RegisterFault::Unjoined { contract, from, to });
-    };
-    if atc < quantity as i32 {
-        return Err(RegisterFault::Short {
-            contract,
-            from,
-            to,
-            atc,
-        });
+    let atc = flow.ok_or(RegisterFault::Unjoined(direction))?;
+    if i64::from(atc) < i64::from(quantity) {
+        return Err(RegisterFault::Short { direction, atc });
+    }
+    Ok(())
+}
+
+// `joined` says whether a connector joins the areas, and `full`, where it matters, whether the pair is not noted
+// and no more can be.
+pub fn check_notice(
+    direction: Direction,
+    figures: Figures,
+    joined: bool,
+    full: bool,
+) -> Result<(), RegisterFault>
+    ensures { (m : Capacity) → joined ≡ m.joins direction.from direction.to → (direction.contract ≤ 23 → joined ≡ true → full ≡ (not (m.noted direction.contract direction.from direction.to) && (m.room == 0))) → said told result ≡ answered (notice_tests m direction.contract direction.from direction.to figures) }
+{
+    if direction.contract > LAST_CONTRACT {
+        return Err(RegisterFault::Contract(direction));
+    }
+    if !joined {
+        return Err(RegisterFault::Unjoined(direction));
+    }
+    if figures.large() {
+        return Err(RegisterFault::Figure(direction));
+    }
+    if full {
+        return Err(RegisterFault::Full(direction));
     }
     Ok(())
 }

@@ -5,6 +5,7 @@ ghost use Rattle.capacity.specs.Tables.{fresh};
 ghost use Rattle.capacity.specs.Shapes.{network_of, table_of, layered};
 ghost use Rattle.capacity.specs.Quotes.{flow_in, told_of, taken_from};
 
+use crate::direction::Direction;
 use crate::figures::Figures;
 use crate::map::ConnectorMap;
 use crate::register::Register;
@@ -19,30 +20,39 @@ pub struct Flow {
 }
 
 // From 0 to 1 in contract 3.
+pub const WAY: Direction = Direction {
+    contract: 3,
+    from: 0,
+    to: 1,
+};
+
+// What can flow on that connector.
 fn both_ways<R: Register>(register: &R) -> Flow
     ensures { result ≡ flow_in (R.Register.meaning register.now) }
 {
     Flow {
-        there: register.atc(3, 0, 1),
-        back: register.atc(3, 1, 0),
+        there: register.atc(WAY),
+        back: register.atc(WAY.back()),
     }
 }
 
+// What is noticed of it.
+pub const FIGURES: Figures = Figures {
+    ntc: 200,
+    ntc_back: 0,
+    aac: 50,
+    aac_back: 0,
+};
+
 // NTC 200 and AAC 50 from 0 to 1, then a take of 30: what can flow before the take and after it.
-fn quote<R: Register>(register: &mut R) -> (Flow, Flow)
+pub fn quote<R: Register>(register: &mut R) -> (Flow, Flow)
     ensures before { result.0 ≡ flow_in (told_of (R.Register.meaning register.old)) }
     ensures later { result.1 ≡ flow_in (taken_from (told_of (R.Register.meaning register.old))) }
     ensures after { R.Register.meaning register.new ≡ taken_from (told_of (R.Register.meaning register.old)) }
 {
-    let figures = Figures {
-        ntc: 200,
-        ntc_back: 0,
-        aac: 50,
-        aac_back: 0,
-    };
-    let _ = register.notice(3, 0, 1, figures);
+    let _ = register.notice(WAY, FIGURES);
     let before = both_ways(register);
-    let _ = register.take(3, 0, 1, 30);
+    let _ = register.take(WAY, 30);
     (before, both_ways(register))
 }
 

@@ -2,59 +2,37 @@
 ghost use Rattle.std.specs.Prelude.{◌≡◌};
 ghost use Rattle.capacity.specs.Faults.{told, map_told};
 
+use crate::direction::Direction;
+
 // Each case says which direction of which contract was asked for.
 #[derive(Clone, Copy)]
 pub enum RegisterFault {
     // the contract is above 23
-    Contract {
-        contract: u32,
-        from: u32,
-        to: u32,
-    },
+    Contract(Direction),
     // the quantity is outside 1 to 99,999
-    Quantity {
-        contract: u32,
-        from: u32,
-        to: u32,
-    },
+    Quantity(Direction),
     // no connector joins the areas
-    Unjoined {
-        contract: u32,
-        from: u32,
-        to: u32,
-    },
+    Unjoined(Direction),
     // a figure is above 99,999
-    Figure {
-        contract: u32,
-        from: u32,
-        to: u32,
-    },
+    Figure(Direction),
     // the ATC is below the quantity
-    Short {
-        contract: u32,
-        from: u32,
-        to: u32,
-        atc: i32,
-    },
+    Short { direction: Direction, atc: i32 },
     // the pair is not noted and no more can be
-    Full {
-        contract: u32,
-        from: u32,
-        to: u32,
-    },
+    Full(Direction),
 }
 
 impl RegisterFault {
+    // The table of numbers, by a match: a variant that holds values has no cast.
     pub fn number(&self) -> u32
         ensures { result ≡ (told self.now).number }
     {
         match self {
-            RegisterFault::Contract { .. } => 2,
-            RegisterFault::Quantity { .. } => 6,
-            RegisterFault::Unjoined { .. } => 11,
-            RegisterFault::Figure { .. } => 12,
+            RegisterFault::Contract(_) => 2,
+            RegisterFault::Quantity(_) => 6,
+            RegisterFault::Unjoined(_) => 11,
+            RegisterFault::Figure(_) => 12,
             RegisterFault::Short { .. } => 13,
-            RegisterFault::Full { .. } => 14,
+            RegisterFault::Full(_) => 14,
         }
     }
 }
@@ -69,6 +47,7 @@ pub enum MapFault {
 }
 
 impl MapFault {
+    // As above.
     pub fn number(&self) -> u32
         ensures { result ≡ (map_told self.now).number }
     {

@@ -1,4 +1,5 @@
 // How far the numbers of the market go.
+// The contracts of calls write these numbers out, since a definition is read on its own.
 // Contracts are 0 to 23.
 pub const LAST_CONTRACT: u32 = 23;
 // Market areas are 0 to 15.

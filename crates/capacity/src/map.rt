@@ -4,9 +4,10 @@ ghost use Rattle.capacity.specs.Tests.{answered, resulting, said};
 ghost use Rattle.capacity.specs.Faults.{map_told};
 ghost use Rattle.capacity.specs.Meaning.{reserved};
 ghost use Rattle.capacity.specs.Network.{no_network, connectors, connect_tests, connected};
-ghost use Rattle.capacity.specs.Tables.{fresh};
+ghost use Rattle.capacity.specs.Tables.{on, fresh};
 ghost use Rattle.capacity.specs.Shapes.{joins_of, kept_of, network_of, table_of, layered};
 
+use crate::direction::Direction;
 use crate::faults::MapFault;
 use crate::limits::{LAST_AREA, MOST_CONNECTORS, TOP_FIGURE};
 use crate::map::links::Links;
@@ -35,6 +36,7 @@ impl ConnectorMap {
     }
 
     // Joins two areas and keeps back `held` in the direction given, `held_back` in the other.
+    // Areas with no contract are asked for by maps and grids: a struct for two numbers is no plainer.
     pub fn connect(&mut self, from: u32, to: u32, held: u32, held_back: u32) -> Result<(), MapFault>
         ensures answer { said map_told result ≡ answered (connect_tests (network_of self.old) from to held held_back) }
         ensures after { network_of self.new ≡ resulting (connect_tests (network_of self.old) from to held held_back) (network_of self.old) (connected (network_of self.old) from to held held_back) }
@@ -60,6 +62,13 @@ impl ConnectorMap {
         ensures { result ≡ (network_of self.now).joins from to }
     {
         self.links.joins(from, to)
+    }
+
+    // Whether the contract exists and a connector joins the areas.
+    pub fn serves(&self, direction: Direction) -> bool
+        ensures { result ≡ on (network_of self.now).joins direction.contract direction.from direction.to }
+    {
+        self.links.serves(direction)
     }
 
     // How many connectors there are, never above 32.

@@ -1,10 +1,11 @@
 // The reserve layer: a register that keeps more back than the one below it, and is as that one in all else.
-ghost use Rattle.std.specs.Prelude.{◌≡◌};
+ghost use Rattle.std.specs.Prelude.{◌≡◌, ◌+◌, ◌≤◌, min};
 ghost use Rattle.capacity.specs.Meaning.{reserved};
-ghost use Rattle.capacity.specs.Shapes.{network_of, layered};
+ghost use Rattle.capacity.specs.Shapes.{network_of, kept_of, layered};
 ghost use Rattle.capacity.specs.Soundness.{layered_sound};
 
 use crate::checks::check_take;
+use crate::direction::Direction;
 use crate::faults::RegisterFault;
 use crate::figures::Figures;
 use crate::limits::TOP_FIGURE;
@@ -46,48 +47,41 @@ impl<R: Register> Reserve<R> {
     }
 }
 
+impl<R> Reserve<R> {
+    // What is held where the register below holds `held`.
+    fn raised(&self, held: u32, direction: Direction) -> u32
+        requires { held ≤ 99999 }
+        ensures { result ≡ min (held + kept_of self.now.wishes direction.from direction.to) 99999 }
+    {
+        (held + self.wishes.kept(direction.from, direction.to)).min(TOP_FIGURE)
+    }
+}
+
 impl<R: Register> Register for Reserve<R> {
     ghost meaning = { layered R.Register.meaning };
 
     ghost sound = { layered_sound R.Register.meaning R.Register.sound };
 
-    fn atc(&self, contract: u32, from: u32, to: u32) -> Option<i32> {
-        let Some(atc) = self.below.atc(contract, from, to) else {
-            return None;
-        };
-        let Some(held) = self.below.held(contract, from, to) else {
-            return None;
-        };
-        let more = (held + self.wishes.kept(from, to)).min(TOP_FIGURE) - held;
+    fn atc(&self, direction: Direction) -> Option<i32> {
+        let atc = self.below.atc(direction)?;
+        let held = self.below.held(direction)?;
+        let more = self.raised(held, direction) - held;
+        // `as`, since `more` is at most 99,999: `try_from` would add a refusal that cannot be.
         Some(atc - more as i32)
     }
 
-    fn held(&self, contract: u32, from: u32, to: u32) -> Option<u32> {
-        let Some(held) = self.below.held(contract, from, to) else {
-            return None;
-        };
-        Some((held + self.wishes.kept(from, to)).min(TOP_FIGURE))
+    fn held(&self, direction: Direction) -> Option<u32> {
+        let held = self.below.held(direction)?;
+        Some(self.raised(held, direction))
     }
 
-    fn take(
-        &mut self,
-        contract: u32,
-        from: u32,
-        to: u32,
-        quantity: u32,
-    ) -> Result<(), RegisterFault> {
-        let flow = self.atc(contract, from, to);
-        check_take(contract, from, to, quantity, flow)?;
-        self.below.take(contract, from, to, quantity)
+    fn take(&mut self, direction: Direction, quantity: u32) -> Result<(), RegisterFault> {
+        let flow = self.atc(direction);
+        check_take(direction, quantity, flow)?;
+        self.below.take(direction, quantity)
     }
 
-    fn notice(
-        &mut self,
-        contract: u32,
-        from: u32,
-        to: u32,
-        figures: Figures,
-    ) -> Result<(), RegisterFault> {
-        self.below.notice(contract, from, to, figures)
+    fn notice(&mut self, direction: Direction, figures: Figures) -> Result<(), RegisterFault> {
+        self.below.notice(direction, figures)
     }
 }

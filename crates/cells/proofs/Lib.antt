@@ -1,5 +1,4 @@
 -- Lemmas of the crate.
-pub mod Spots
-pub mod Ways
-pub mod Stored
+pub mod Named
+pub mod Said
 pub mod Held

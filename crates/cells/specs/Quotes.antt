@@ -1,5 +1,5 @@
 -- The calls of the worked example, on any register.
-use Rattle.std.specs.Prelude.{ℕ, Ok, Err, Result}
+use Rattle.std.specs.Prelude.{ℕ, Some, None, Option, Ok, Err, Result}
 use Rattle.capacity.specs.Answers.{notice_tests}
 use Rattle.capacity.specs.Faults.{Refusal}
 use Rattle.capacity.specs.Meaning.{Capacity}
@@ -7,10 +7,10 @@ use Rattle.capacity.specs.Quotes.{flow_in, told_of, taken_from, the_figures}
 use Rattle.capacity.specs.Tests.{answered}
 use Rattle.cells.specs.declared.example.Quote.{Quote}
 
--- a refusal's number, or 0
-abbrev pub number_of : Result (Unit {0}) Refusal → ℕ
-number_of (Ok x) = 0
-number_of (Err e) = e.number
+-- a refusal's number
+abbrev pub number_of : Result (Unit {0}) Refusal → Option ℕ
+number_of (Ok x) = None
+number_of (Err e) = Some e.number
 
 abbrev pub quote_of : Capacity → Quote
 quote_of m = record {

@@ -3,66 +3,36 @@ ghost use Rattle.std.specs.Prelude.{◌≡◌, length, pos, Some};
 ghost use Rattle.capacity.specs.Meaning.{reserved};
 ghost use Rattle.capacity.specs.Shapes.{network_of};
 ghost use Rattle.cells.specs.Meaning.{unnoted};
-ghost use Rattle.capacity.specs.Faults.{told};
-ghost use Rattle.capacity.specs.Quotes.{flow_in};
-ghost use Rattle.capacity.specs.Tests.{said};
-ghost use Rattle.cells.specs.Quotes.{number_of, quote_of};
+ghost use Rattle.cells.specs.Quotes.{quote_of};
 
 use crate::cell::Cell;
 use crate::register::CellRegister;
-use capacity::example::Flow;
-use capacity::faults::RegisterFault;
-use capacity::figures::Figures;
+use capacity::direction::Direction;
+use capacity::example::{FIGURES, Flow, WAY, quote};
 use capacity::map::ConnectorMap;
 use capacity::register::Register;
 use capacity::reserve::Reserve;
 
 // What can flow from 0 to 1 in contract 3 before a take and after it, and the number by which
-// a notice for contract 4 is then refused, or 0.
+// a notice for contract 4 is then refused, if it is.
 #[derive(Clone, Copy)]
 pub struct Quote {
     pub before: Flow,
     pub later: Flow,
-    pub refused: u32,
-}
-
-fn both_ways<R: Register>(register: &R) -> Flow
-    ensures { result ≡ flow_in (R.Register.meaning register.now) }
-{
-    Flow {
-        there: register.atc(3, 0, 1),
-        back: register.atc(3, 1, 0),
-    }
-}
-
-fn number(answer: Result<(), RegisterFault>) -> u32
-    ensures { result ≡ number_of (said told answer) }
-{
-    match answer {
-        Ok(()) => 0,
-        Err(fault) => fault.number(),
-    }
+    pub refused: Option<u32>,
 }
 
 // NTC 200 and AAC 50 from 0 to 1, a take of 30, and the same figures for another contract.
 fn ask<R: Register>(register: &mut R) -> Quote
     ensures { result ≡ quote_of (R.Register.meaning register.old) }
 {
-    let figures = Figures {
-        ntc: 200,
-        ntc_back: 0,
-        aac: 50,
-        aac_back: 0,
-    };
-    let _ = register.notice(3, 0, 1, figures);
-    let before = both_ways(register);
-    let _ = register.take(3, 0, 1, 30);
-    let later = both_ways(register);
-    let refused = number(register.notice(4, 0, 1, figures));
+    let (before, later) = quote(register);
+    let next = Direction { contract: 4, ..WAY };
+    let answer = register.notice(next, FIGURES);
     Quote {
         before,
         later,
-        refused,
+        refused: answer.err().map(|fault| fault.number()),
     }
 }
 
@@ -78,7 +48,7 @@ fn ask_in<'a>(map: &'a ConnectorMap, cells: &'a mut [Cell]) -> Quote
 // With one cell and nothing kept back 150 can flow and 50 back; after the take 120 and 80.
 // A second pair is refused by 14.
 pub fn one_cell() -> Quote
-    ensures { result ≡ record { before = record { there = Some (pos 150); back = Some (pos 50) }; later = record { there = Some (pos 120); back = Some (pos 80) }; refused = 14 } }
+    ensures { result ≡ record { before = record { there = Some (pos 150); back = Some (pos 50) }; later = record { there = Some (pos 120); back = Some (pos 80) }; refused = Some 14 } }
 {
     let mut map = ConnectorMap::new();
     let _ = map.connect(0, 1, 0, 0);

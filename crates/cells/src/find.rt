@@ -1,37 +1,43 @@
-// Reading the cells: the place of a pair, and what is noted of a direction.
-ghost use Rattle.std.specs.Prelude.{◌≡◌};
-ghost use Rattle.cells.specs.Sides.{Small};
-ghost use Rattle.cells.specs.Cells.{spot, side_in};
-ghost use Rattle.cells.specs.Shapes.{in_use};
+// Reading the cells: the place of a pair, and what is noted of it.
+ghost use Rattle.std.specs.Prelude.{◌≡◌, ◌-◌, ◌==◌, not, ◌&&◌, length, position};
+ghost use Rattle.capacity.specs.Granted.{Served};
+ghost use Rattle.capacity.specs.Pairs.{Shows};
+ghost use Rattle.capacity.specs.Shapes.{network_of};
+ghost use Rattle.cells.specs.Cells.{names, noted_in};
+ghost use Rattle.cells.specs.Shapes.{in_use, cells_of};
 
 use crate::register::CellRegister;
-use crate::side::Side;
+use capacity::direction::Direction;
+use capacity::pair::Pair;
 
 impl<'a> CellRegister<'a> {
-    // The place of the first cell in use for the pair, or how many are in use.
-    pub(crate) fn find(&self, contract: u32, from: u32, to: u32) -> usize
-        ensures { result ≡ spot (in_use self.now) contract from to }
+    // The place of the first cell in use for the pair.
+    pub(crate) fn find(&self, direction: Direction) -> Option<usize>
+        ensures { result ≡ position (λ x. names x direction.contract direction.from direction.to) (in_use self.now) }
     {
-        let end = self.count.min(self.cells.len());
-        for i in 0..end {
-            let cell = self.cells[i];
-            if cell.names(contract, from, to) {
-                return i;
-            }
-        }
-        end
+        self.cells
+            .iter()
+            .take(self.count)
+            .position(|cell| cell.names(direction))
     }
 
-    // What the cells say of a direction, or nought.
-    pub(crate) fn side(&self, contract: u32, from: u32, to: u32) -> Side
-        ensures value { result ≡ side_in (in_use self.now) contract from to }
-        ensures small { Small result }
+    // Whether the pair has no cell, and none is free.
+    pub(crate) fn full(&self, direction: Direction) -> bool
+        ensures { result ≡ (not (noted_in (in_use self.now) direction.contract direction.from direction.to) && (length self.now.cells.now - self.now.count == 0)) }
     {
-        let i = self.find(contract, from, to);
-        if i >= self.count.min(self.cells.len()) {
-            return Side::NONE;
-        }
+        self.find(direction).is_none() && self.count >= self.cells.len()
+    }
+
+    // What the cells say of a pair, or nought.
+    // `Served` is a fact of the map and the direction together, so no field of either can hold it.
+    pub(crate) fn pair(&self, direction: Direction) -> Pair
+        requires { Served (network_of self.now.map.now).joins direction.contract direction.from direction.to }
+        ensures { Shows (cells_of self.now) direction.contract direction.from direction.to result.there result.back }
+    {
+        let Some(i) = self.find(direction) else {
+            return Pair::none();
+        };
         let cell = self.cells[i];
-        cell.side(from, to)
+        cell.pair(direction)
     }
 }

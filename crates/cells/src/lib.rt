@@ -2,11 +2,9 @@
 #![tactic(auto)]
 
 pub mod cell;
-mod checks;
 pub mod example;
 mod find;
 pub mod register;
-pub mod side;
 mod store;
 #[cfg(test)]
 mod tests;

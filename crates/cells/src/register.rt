@@ -7,6 +7,7 @@ mod calls;
 #[derive(Drop)]
 pub struct CellRegister<'a> {
     pub(crate) map: &'a ConnectorMap,
+    // Lent memory with a count, not a `Vec`: a register takes no heap.
     pub(crate) cells: &'a mut [Cell],
     pub(crate) count: usize,
 }

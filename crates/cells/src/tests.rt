@@ -2,6 +2,7 @@
 use crate::cell::Cell;
 use crate::example::one_cell;
 use crate::register::CellRegister;
+use capacity::example::WAY;
 use capacity::figures::Figures;
 use capacity::map::ConnectorMap;
 use capacity::register::Register;
@@ -13,20 +14,20 @@ fn one_cell_for_one_pair(rt: HostRuntime) {
     assert_eq!(rt; quote.before.back, Some(50));
     assert_eq!(rt; quote.later.there, Some(120));
     assert_eq!(rt; quote.later.back, Some(80));
-    assert_eq!(rt; quote.refused, 14);
+    assert_eq!(rt; quote.refused, Some(14));
 }
 
 // What can flow before the first notice.
 fn at_first<'a>(map: &'a ConnectorMap, cells: &'a mut [Cell]) -> Option<i32> {
     let mut register = CellRegister::new(map, cells);
-    let first = register.atc(3, 0, 1);
+    let first = register.atc(WAY);
     let figures = Figures {
         ntc: 7,
         ntc_back: 7,
         aac: 0,
         aac_back: 0,
     };
-    let _ = register.notice(3, 1, 0, figures);
+    let _ = register.notice(WAY.back(), figures);
     first
 }
 

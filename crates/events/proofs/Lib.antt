@@ -1,2 +1,2 @@
 -- Laws of the calls as values.
-pub mod Rounds
+pub mod Tests

@@ -1,8 +1,7 @@
 // A call made on a session, and the pass that it leaves.
-ghost use Rattle.std.specs.Prelude.{◌≡◌, false};
-ghost use Rattle.session.specs.Calls.{answer, begun, kept, shut, counted};
+ghost use Rattle.std.specs.Prelude.{◌≡◌, Ok, Err, MatchResult};
 ghost use Rattle.session.specs.State.{state};
-ghost use Rattle.events.specs.Events.{Answered, Plainly, Counting, is_accepted, round_follows};
+ghost use Rattle.events.specs.Events.{Answered, begins_round, round_follows};
 ghost use Rattle.events.specs.Performing.{LeftBy};
 
 use crate::calls::Call;
@@ -11,42 +10,41 @@ use capacity::register::Register;
 use session::passes::{Closing, QuietPass, Refused, RoundPass};
 use session::state::Session;
 
-// The pass that a call leaves: of a quiet session, or of one with a round under way.
+// The pass that a call leaves: of a quiet session, or of one with a round under way. Neither is a fault and both hold a pass, so a
+// Result or an Option would say less.
 pub(crate) enum Left {
     Quiet(QuietPass),
     Round(RoundPass),
 }
 
-// Of a call that begins a round.
-fn beginning(res: Result<RoundPass, Refused<QuietPass>>) -> (Answer, Left)
-    ensures answer { Plainly (answer res) result.0 }
-    ensures left { LeftBy (is_accepted result.0) (begun res) result.1 }
+// What an accepted call answers, and the pass that it leaves; or why it is refused. The parameters are those of `perform`.
+fn accept<R: Register>(
+    session: &mut Session<R>,
+    pass: QuietPass,
+    call: &Call,
+) -> Result<(Option<usize>, Left), Refused<QuietPass>>
+    ensures answer { MatchResult result (λ x. Answered (state R.Register.meaning session.old) pass.number call.now (Ok x.0) (state R.Register.meaning session.new)) (λ e. Answered (state R.Register.meaning session.old) pass.number call.now (Err e.fault) (state R.Register.meaning session.new)) }
+    ensures left { MatchResult result (λ x. LeftBy (begins_round call.now) pass.number x.1) (λ e. e.pass.number ≡ pass.number) }
 {
-    match res {
-        Ok(pass) => (Answer::Accepted, Left::Round(pass)),
-        Err(Refused { fault, pass }) => (Answer::Refused(fault), Left::Quiet(pass)),
-    }
-}
-
-// Of a call that begins none.
-fn keeping(res: Result<QuietPass, Refused<QuietPass>>) -> (Answer, Left)
-    ensures answer { Plainly (answer res) result.0 }
-    ensures left { LeftBy false (kept res) result.1 }
-{
-    match res {
-        Ok(pass) => (Answer::Accepted, Left::Quiet(pass)),
-        Err(Refused { fault, pass }) => (Answer::Refused(fault), Left::Quiet(pass)),
-    }
-}
-
-fn closing(res: Result<Closing, Refused<QuietPass>>) -> (Answer, Left)
-    ensures answer { Counting (counted res) result.0 }
-    ensures left { LeftBy false (shut res) result.1 }
-{
-    match res {
-        Ok(Closing { gone, pass }) => (Answer::Gone(gone), Left::Quiet(pass)),
-        Err(Refused { fault, pass }) => (Answer::Refused(fault), Left::Quiet(pass)),
-    }
+    // A match and no closures: calls are values, which events hold and laws speak of.
+    let round = match *call {
+        Call::Enter(entry) => session.enter(pass, &entry)?,
+        Call::Change(change) => session.change(pass, &change)?,
+        Call::Request {
+            direction,
+            quantity,
+        } => session.request(pass, direction, quantity)?,
+        Call::Notice { direction, figures } => session.notice(pass, direction, figures)?,
+        Call::Withdraw { number, member } => {
+            let pass = session.withdraw(pass, number, member)?;
+            return Ok((None, Left::Quiet(pass)));
+        }
+        Call::Close { contract } => {
+            let Closing { gone, pass } = session.close(pass, contract)?;
+            return Ok((Some(gone), Left::Quiet(pass)));
+        }
+    };
+    Ok((None, Left::Round(round)))
 }
 
 pub(crate) fn make<R: Register>(
@@ -57,27 +55,8 @@ pub(crate) fn make<R: Register>(
     ensures answer { Answered (state R.Register.meaning session.old) pass.number call.now result.0 (state R.Register.meaning session.new) }
     ensures left { LeftBy (round_follows call.now result.0) pass.number result.1 }
 {
-    match *call {
-        Call::Enter(entry) => beginning(session.enter(pass, &entry)),
-        Call::Change {
-            number,
-            member,
-            limit,
-            quantity,
-        } => beginning(session.change(pass, number, member, limit, quantity)),
-        Call::Withdraw { number, member } => keeping(session.withdraw(pass, number, member)),
-        Call::Request {
-            contract,
-            from,
-            to,
-            quantity,
-        } => beginning(session.request(pass, contract, from, to, quantity)),
-        Call::Notice {
-            contract,
-            from,
-            to,
-            figures,
-        } => beginning(session.notice(pass, contract, from, to, figures)),
-        Call::Close { contract } => closing(session.close(pass, contract)),
+    match accept(session, pass, call) {
+        Ok((gone, left)) => (Ok(gone), left),
+        Err(Refused { fault, pass }) => (Err(fault), Left::Quiet(pass)),
     }
 }

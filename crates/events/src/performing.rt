@@ -1,8 +1,6 @@
 // A call made on a session, and its round, if it begins one, run to its end.
-ghost use Rattle.std.specs.Prelude.{◌≡◌, true, List};
-ghost use Rattle.session.specs.Rounds.{Logged, Noted, Ran};
+ghost use Rattle.std.specs.Prelude.{◌≡◌};
 ghost use Rattle.session.specs.State.{state};
-ghost use Rattle.session.specs.Steps.{round_here};
 ghost use Rattle.events.specs.declared.events.Event.{Event as AnEvent};
 ghost use Rattle.events.specs.Performing.{Performed};
 
@@ -11,7 +9,7 @@ use crate::events::{Answer, Event};
 use crate::making::{Left, make};
 use capacity::register::Register;
 use session::finishing::TradeLog;
-use session::passes::{QuietPass, RoundPass};
+use session::passes::QuietPass;
 use session::state::Session;
 
 // What a caller does with a call and its answer, before the trades that follow.
@@ -24,23 +22,9 @@ pub trait CallLog {
         ensures { calls self.old event.now self.new };
 }
 
-// Runs to its end a round that is under way.
-fn finish<R: Register, L: TradeLog>(
-    session: &mut Session<R>,
-    pass: RoundPass,
-    log: &mut L,
-) -> QuietPass
-    requires { round_here (state R.Register.meaning session.old) pass.number ≡ true }
-    ensures ran { (xs : List Logged) × Noted L.TradeLog.notes log.old xs log.new × Ran (state R.Register.meaning session.old) xs (state R.Register.meaning session.new) }
-    ensures pass { result.number ≡ pass.number }
-{
-    match session.finish_round(pass, log) {
-        Ok(quiet) => quiet,
-        Err(_) => unreachable(),
-    }
-}
-
 // Makes a call and runs its round to its end; the log is told of the call, then of each trade.
+// Session, pass and log stay parameters: a struct of two `&mut` and a pass that is moved would be made and taken apart at each call.
+#[tactic(auto, using(crate::proofs::Tests::round_begun))]
 pub fn perform<R: Register, L: CallLog + TradeLog>(
     session: &mut Session<R>,
     pass: QuietPass,
@@ -59,6 +43,6 @@ pub fn perform<R: Register, L: CallLog + TradeLog>(
     });
     match left {
         Left::Quiet(pass) => (answer, pass),
-        Left::Round(pass) => (answer, finish(session, pass, log)),
+        Left::Round(pass) => (answer, session.finish_round(pass, log).unwrap()),
     }
 }

@@ -2,6 +2,7 @@
 use Rattle.std.proofs.Common.{◌≡◌, ℕ, ◌≤◌, min, List, [], ◌∷◌, ℤ, pos, ◌≤ℤ◌, sym, refl, ap, ◌∙◌, subst, arith}
 use Rattle.std.proofs.lemmas.Int.{ints, clamps}
 use Rattle.std.specs.Int.{int_min}
+use Rattle.std.specs.Int.Signed.{≤ℤ_refl}
 use Rattle.capacity.specs.Meaning.{Capacity, atc}
 use Rattle.routes.specs.Paths.{Onward, Path}
 use Rattle.flows.specs.Flows.{OpenIn, flow, min_flow, least_flow, least, Carries}
@@ -31,9 +32,6 @@ module _ (m : Capacity) (c : ℕ) where
   -- each ATC from a through the list is at least q
   abbrev pub EnoughOn : ℕ → ℕ → List ℕ → Type 0
   EnoughOn q = EachOnward (λ a b. pos q ≤ℤ atc m c a b)
-
-  pub min_flow_is : (n r f a b : ℕ) → r ≡ min n f → f ≡ flow m c a b → r ≡ min_flow m c n a b
-  min_flow_is n r f a b e h = e ∙ ap (min n) h
 
   flow_least : (n a q : ℕ) (xs : List ℕ) → Onward (OpenIn m c) a q xs → pos (flow_on n a xs) ≡ least_on (pos n) a xs
   flow_least n a q [] o = refl
@@ -66,10 +64,7 @@ module _ (m : Capacity) (c : ℕ) where
   pub least_carries : (n q x y : ℕ) (xs : List ℕ) → q ≡ least_flow m c n xs → Path (OpenIn m c) x y xs → 1 ≤ n → n ≤ 99999 → Carries m c x y n q xs
   least_carries n q x y xs e p l k =
       let is : pos q ≡ least m c (pos n) xs = ap pos e ∙ least_is n x y xs p in
-      let fits : pos q ≤ℤ least m c (pos n) xs = subst (λ z. pos q ≤ℤ z) is (same (pos q)) in
+      let fits : pos q ≤ℤ least m c (pos n) xs = subst (λ z. pos q ≤ℤ z) is (≤ℤ_refl (pos q)) in
       let some : pos 1 ≤ℤ pos q = subst (λ z. pos 1 ≤ℤ z) (sym is) (least_some n x y xs p l) in
       let most : q ≤ n = least_most n q x y xs p fits in
       record { path = p; some = omega (arith, ints); few = omega arith; fits = fits }
-    where
-      same : (z : ℤ) → z ≤ℤ z
-      same z = omega (arith, ints)

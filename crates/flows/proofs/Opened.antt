@@ -1,13 +1,11 @@
 -- What it is for a direction to be open, and what a grid with the same directions says.
-use Rattle.std.proofs.Common.{◌≡◌, ℕ, ◌+◌, ◌<◌, ◌≤◌, Bool, true, false, leb, ℤ, pos, negsuc, nat_abs, ◌≤ℤ◌, sym, refl, ap, ◌∙◌, subst, inl, inr, arith, below_more}
+use Rattle.std.proofs.Common.{◌≡◌, ℕ, ◌+◌, ◌<◌, ◌≤◌, Bool, true, false, leb, ℤ, pos, negsuc, nat_abs, ◌≤ℤ◌, sym, refl, ap, ◌∙◌, subst, arith, below_more}
 use lib.Signed.{le_z}
-use mathlib.Core.Path.{fun_ext}
 use Rattle.std.proofs.lemmas.Int.{ints}
-use Rattle.std.proofs.lemmas.Bool.{cases_Bool, cases_lt, and_parts, and_from, and_left, and_right, leb-true, le-leb, le-ltb, cond-true, cond-false}
-use Rattle.capacity.specs.Meaning.{Capacity, Sound, atc}
-use Rattle.routes.specs.declared.grid.Grid.{Grid}
+use Rattle.std.proofs.lemmas.Bool.{and_parts, and_from, leb-true, le-leb, cond-true, cond-false}
+use Rattle.capacity.specs.Meaning.{Capacity, atc}
 use Rattle.routes.proofs.Flags.{turned_here, turned_other}
-use Rattle.routes.specs.Grids.{opens, turned}
+use Rattle.routes.specs.Grids.{turned}
 use Rattle.routes.specs.Paths.{Holds, Path, IsRoute}
 use Rattle.flows.specs.Flows.{open_in, OpenIn, flow}
 use Rattle.flows.specs.Same.{SamePaths}
@@ -38,27 +36,6 @@ module _ (m : Capacity) (c a b : ℕ) where
 
   pub flow_shut : open_in m c a b ≡ false → flow m c a b ≡ 0
   flow_shut h = cond-false _ (nat_abs (atc m c a b)) 0 h
-
--- only areas are joined
-pub shut_outside : (m : Capacity) → Sound m → (c a b : ℕ) → (a < 16 → b < 16 → ⊥) → open_in m c a b ≡ false
-shut_outside m s c a b n =
-    elim (cases_Bool (open_in m c a b)) [
-      | inl h ↦ let r = s.areas a b (open_parts m c a b h).1 in absurd (n (omega arith) (omega arith))
-      | inr h ↦ h
-    ]
-
--- a grid that has what is open between areas has what is open
-pub grid_whole : (m : Capacity) → Sound m → (c : ℕ) (g : Grid) → ((a b : ℕ) → a < 16 → b < 16 → opens g a b ≡ open_in m c a b) → opens g ≡ open_in m c
-grid_whole m s c g h = fun_ext (λ a. fun_ext (λ b. each a b))
-  where
-    each : (a b : ℕ) → opens g a b ≡ open_in m c a b
-    each a b = elim (cases_lt a 16) [
-      | inl la ↦ elim (cases_lt b 16) [
-        | inl lb ↦ h a b la lb
-        | inr lb ↦ and_left _ _ (and_right _ _ (le-ltb b 16 lb)) ∙ sym (shut_outside m s c a b (λ _ l. omega arith))
-      ]
-      | inr la ↦ and_left _ _ (and_left _ _ (le-ltb a 16 la)) ∙ sym (shut_outside m s c a b (λ l _. omega arith))
-    ]
 
 -- paths and routes depend on nothing but what is open
 pub same_paths : (f g : ℕ → ℕ → Bool) → f ≡ g → SamePaths (Holds f) (Holds g)

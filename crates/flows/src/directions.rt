@@ -4,30 +4,27 @@ ghost use Rattle.flows.specs.Flows.{flow, open_in, OpenIn};
 ghost use Rattle.flows.specs.Same.{SamePaths};
 ghost use Rattle.routes.specs.Grids.{opens, Leads};
 
+use capacity::direction::Direction;
 use capacity::register::Register;
-use routes::Grid;
-
-// How many areas there are: the areas are 0 to 15.
-const AREAS: u32 = 16;
+use routes::{AREAS, Grid};
 
 // What must at least flow for a direction to be open.
 const LEAST_FLOW: u32 = 1;
 
-// What can still flow from one area to another, 0 where they are not joined or the ATC is below nought.
-pub(crate) fn flow_between<R: Register>(register: &R, contract: u32, from: u32, to: u32) -> u32
-    ensures { result ≡ flow (R.Register.meaning register.now) contract from to }
+// What can still flow in a direction, 0 where its areas are not joined or the ATC is below nought.
+pub(crate) fn flow_between<R: Register>(register: &R, direction: Direction) -> u32
+    ensures { result ≡ flow (R.Register.meaning register.now) direction.contract direction.from direction.to }
 {
-    match register.atc(contract, from, to) {
-        Some(atc) if atc > 0 => atc as u32,
-        _ => 0,
-    }
+    register
+        .atc(direction)
+        .map_or(0, |atc| u32::try_from(atc).unwrap_or(0))
 }
 
 // No area is joined to itself, so that is not asked.
-fn is_open<R: Register>(register: &R, contract: u32, from: u32, to: u32) -> bool
-    ensures { result ≡ open_in (R.Register.meaning register.now) contract from to }
+fn is_open<R: Register>(register: &R, direction: Direction) -> bool
+    ensures { result ≡ open_in (R.Register.meaning register.now) direction.contract direction.from direction.to }
 {
-    from != to && flow_between(register, contract, from, to) >= LEAST_FLOW
+    direction.from != direction.to && flow_between(register, direction) >= LEAST_FLOW
 }
 
 // Sets the directions that lead from one area.
@@ -37,7 +34,8 @@ fn open_from<R: Register>(register: &R, contract: u32, from: u32, grid: &mut Gri
     ensures others { (a b : ℕ) → (a ≢ from) → opens grid.new a b ≡ opens grid.old a b }
 {
     for to in 0..AREAS {
-        grid.set(from, to, is_open(register, contract, from, to));
+        let open = is_open(register, Direction { contract, from, to });
+        grid.set(from, to, open);
     }
 }
 

@@ -6,6 +6,7 @@ ghost use Rattle.routes.specs.Listed.{listed};
 ghost use Rattle.routes.specs.Paths.{Path};
 
 use crate::directions::flow_between;
+use capacity::direction::Direction;
 use capacity::register::Register;
 use routes::Route;
 
@@ -15,12 +16,10 @@ pub fn least_along<R: Register>(register: &R, contract: u32, route: &Route, most
     ensures open_route { (x y : ℕ) → Path (OpenIn (R.Register.meaning register.now) contract) x y (listed route.now) → pos result ≡ least (R.Register.meaning register.now) contract (pos most) (listed route.now) }
     ensures carries { (x y : ℕ) → Path (OpenIn (R.Register.meaning register.now) contract) x y (listed route.now) → 1 ≤ most → most ≤ 99999 → Carries (R.Register.meaning register.now) contract x y most result (listed route.now) }
 {
-    let areas = route.areas();
-    let mut least = most;
-    for i in 0..areas.len() - 1 {
-        least = least.min(flow_between(register, contract, areas[i], areas[i + 1]));
-    }
-    least
+    let hops = route.areas().array_windows::<2>();
+    hops.fold(most, |least, &[from, to]| {
+        least.min(flow_between(register, Direction { contract, from, to }))
+    })
 }
 
 // Takes a quantity on each connector of a route, in order; a take that is refused changes nothing.
@@ -28,8 +27,7 @@ pub fn carry<R: Register>(register: &mut R, contract: u32, route: &Route, quanti
     ensures after { R.Register.meaning register.new ≡ asked_along (R.Register.meaning register.old) contract quantity (listed route.now) }
     ensures traded { (x y n : ℕ) → Carries (R.Register.meaning register.old) contract x y n quantity (listed route.now) → Traded (R.Register.meaning register.old) (R.Register.meaning register.new) contract x y quantity (listed route.now) }
 {
-    let areas = route.areas();
-    for hop in 0..areas.len() - 1 {
-        let _ = register.take(contract, areas[hop], areas[hop + 1], quantity);
+    for &[from, to] in route.areas().array_windows::<2>() {
+        let _ = register.take(Direction { contract, from, to }, quantity);
     }
 }

@@ -1,5 +1,5 @@
 -- An entry and a change keep what holds: each begins a regular round.
-use Rattle.std.proofs.Common.{◌≡◌, ℕ, ◌+◌, ◌≤◌, List, [], ◌∷◌, ◌++◌, map, ℤ, Some, sym, ap, ◌∙◌, subst, inl, inr}
+use Rattle.std.proofs.Common.{◌≡◌, ℕ, ◌+◌, ◌≤◌, List, [], ◌∷◌, ◌++◌, map, ℤ, Some, None, Ok, sym, ap, ◌∙◌, subst, inl, inr}
 use Rattle.book.proofs.Accepting.{accepted}
 use Rattle.book.proofs.Numbers.{lacks}
 use Rattle.book.proofs.Orderliness.{orderly_without}
@@ -9,11 +9,11 @@ use Rattle.book.specs.Orders.{entered}
 use Rattle.book.specs.Places.{place, without, numbered_of}
 use Rattle.book.specs.Ranks.{order_at}
 use Rattle.capacity.specs.Meaning.{Capacity}
+use Rattle.session.specs.declared.entries.Change.{Change as AChange}
 use Rattle.session.specs.declared.entries.Entry.{Entry}
 use Rattle.session.specs.Calls.{terms_with}
 use Rattle.session.specs.State.{State}
 use Rattle.events.specs.declared.calls.Call.TheVariants.{Enter, Change}
-use Rattle.events.specs.declared.events.Answer.TheVariants as answer
 use Rattle.events.specs.declared.events.Event.{Event}
 use Rattle.events.specs.declared.events.Event.TheVariants.{Called}
 use Rattle.history.specs.Standing.{◌∈◌, Standing, standing, smaller, contract_of, anew}
@@ -33,10 +33,10 @@ others_left n i os k d e y g =
     (h.0, other_not n y h.1)
 
 module _ (m : Capacity) (h : List Event) (s : State) (inv : Inv m h s) where
-  pub after_entry : (p : ℕ) (e : Entry) (t : State) → Enters s e t → Inv m (Called p (Enter e) answer.Accepted ∷ h) t
+  pub after_entry : (p : ℕ) (e : Entry) (t : State) → Enters s e t → Inv m (Called p (Enter e) (Ok None) ∷ h) t
   after_entry p e t x =
       let o = entered e.number e.member e.contract e.area e.terms in
-      subst (Inv m (Called p (Enter e) answer.Accepted ∷ h)) (sym x.after) (record {
+      subst (Inv m (Called p (Enter e) (Ok None) ∷ h)) (sym x.after) (record {
         net = inv.net;
         orderly = orderly_push s.book o inv.orderly (accepted e.number e.member e.contract e.area e.terms x.terms) (lacks e.number s.book x.new);
         clear = clear_push s.capacity s.book s.book o (clear_quiet m h s inv x.quiet) (λ y i. i);
@@ -44,10 +44,19 @@ module _ (m : Capacity) (h : List Event) (s : State) (inv : Inv m h s) where
         lone = λ y i k. elim (in_push y o s.book i) [ inl j ↦ absurd (none_ioc m h s inv x.quiet y j k) | inr j ↦ ap (λ (z : Order). z.number) (sym j) ];
         balanced = none_granted m h s inv.balanced;
         covered = tt;
-        within = same_few (smaller e.contract (standing (Called p (Enter e) answer.Accepted ∷ h)));
+        within = same_few (smaller e.contract (standing (Called p (Enter e) (Ok None) ∷ h)));
       })
 
-  module _ (p n i : ℕ) (l : ℤ) (q : ℕ) (t : State) (x : Changes s n i l q t) where
+  module _ (p : ℕ) (c : AChange) (t : State) (x : Changes s c t) where
+    abbrev n : ℕ
+    n = c.number
+
+    abbrev l : ℤ
+    l = c.limit
+
+    abbrev q : ℕ
+    q = c.quantity
+
     abbrev o : Order
     o = order_at s.book x.k
 
@@ -61,25 +70,25 @@ module _ (m : Capacity) (h : List Event) (s : State) (inv : Inv m h s) where
     l₂ = map (anew n l q) (standing h)
 
     other_left : (y : Order) → y ∈ left → (y ∈ s.book) × (y.number ≡ n → ⊥)
-    other_left = others_left n i s.book x.k inv.orderly.distinct x.there
+    other_left = others_left n c.member s.book x.k inv.orderly.distinct x.there
 
     its : o.number ≡ n
-    its = (found n i s.book x.k x.there).1
+    its = (found n c.member s.book x.k x.there).1
 
     orderly₂ : Orderly (left ++ o₂ ∷ [])
     orderly₂ = orderly_push left o₂ (orderly_without s.book x.k inv.orderly) (accepted o.number o.member o.contract o.area (terms_with o l q) x.terms)
         (in_all (λ (y : Order). y.number ≡ o.number → ⊥) left (λ y g e. (other_left y g).1 (e ∙ its)))
 
     agree₂ : Agree (left ++ o₂ ∷ []) l₂
-    agree₂ = agree_change n i l q s.book x.k (standing h) inv.agree inv.orderly x.there x.terms
+    agree₂ = agree_change n c.member l q s.book x.k (standing h) inv.agree inv.orderly x.there x.terms
 
     begins : 0 + smaller o.contract l₂ ≤ smaller (contract_of n l₂) l₂
     begins =
         let e : contract_of n l₂ ≡ o.contract = ap (λ z. contract_of z l₂) (sym its) ∙ contract_row (left ++ o₂ ∷ []) l₂ agree₂ orderly₂ o₂ (push_in o₂ left) in
-        subst (λ c. 0 + smaller o.contract l₂ ≤ smaller c l₂) (sym e) (same_few (smaller o.contract l₂))
+        subst (λ z. 0 + smaller o.contract l₂ ≤ smaller z l₂) (sym e) (same_few (smaller o.contract l₂))
 
-    pub after_change : Inv m (Called p (Change n i l q) answer.Accepted ∷ h) t
-    after_change = subst (Inv m (Called p (Change n i l q) answer.Accepted ∷ h)) (sym x.after) (record {
+    pub after_change : Inv m (Called p (Change c) (Ok None) ∷ h) t
+    after_change = subst (Inv m (Called p (Change c) (Ok None) ∷ h)) (sym x.after) (record {
       net = inv.net;
       orderly = orderly₂;
       clear = clear_push s.capacity s.book left o₂ (clear_quiet m h s inv x.quiet) (λ y g. (other_left y g).0);

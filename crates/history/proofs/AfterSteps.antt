@@ -1,5 +1,5 @@
 -- Every step keeps what holds: a trade, the end of a round, and a refusal.
-use Rattle.std.proofs.Common.{◌≡◌, ℕ, ◌+◌, ◌≤◌, min, true, ◌&&◌, eqb, List, ◌∷◌, sym, ap, ◌∙◌, subst, arith}
+use Rattle.std.proofs.Common.{◌≡◌, ℕ, ◌+◌, ◌≤◌, min, true, ◌&&◌, eqb, List, ◌∷◌, Some, None, Ok, Err, sym, ap, ◌∙◌, subst, arith, Option}
 use Rattle.std.proofs.lemmas.Bool.{both_ways, not-true, and_from, eq-eqb}
 use Rattle.book.proofs.Orderliness.{orderly_kept, orderly_settled}
 use Rattle.book.specs.declared.rows.Order.{Order}
@@ -19,16 +19,13 @@ use Rattle.trades.specs.declared.trade.Trade.{Trade}
 use Rattle.trades.specs.Deals.{traded_contract}
 use Rattle.session.proofs.Carrying.{deal_carries}
 use Rattle.session.specs.declared.faults.SessionFault.{SessionFault}
-use Rattle.session.specs.declared.phases.Phase.{Phase}
-use Rattle.session.specs.declared.phases.Phase.TheVariants.{Quiet, Under}
 use Rattle.session.specs.Rounds.{Makes}
 use Rattle.session.specs.State.{State}
 use Rattle.session.specs.Steps.{rested, Ends}
 use Rattle.events.specs.declared.events.Event.{Event}
 use Rattle.events.specs.declared.events.Event.TheVariants.{Stepped}
-use Rattle.events.specs.declared.events.StepAnswer.{StepAnswer}
-use Rattle.events.specs.declared.events.StepAnswer.TheVariants as step
-use Rattle.events.specs.Events.{logged, StepAnswered}
+use Rattle.events.specs.declared.events.Traded.{Traded}
+use Rattle.events.specs.Events.{StepAnswer, logged, StepAnswered}
 use Rattle.history.specs.Standing.{◌∈◌, standing, steps, bound, smaller}
 use Rattle.history.proofs.Agreeing.{Lone, agree_done}
 use Rattle.history.proofs.Clear.{Clear, Part, clear_part}
@@ -61,7 +58,7 @@ ioc_later (Regular c n) x y l k = l.number ∙ k
 ioc_later (Batch c) x y l k = k
 
 module _ (m : Capacity) (h : List Event) (s : State) (inv : Inv m h s) (p z : ℕ) where
-  after_refusal : (f : SessionFault) → Inv m (Stepped p z (step.Refused f) ∷ h) s
+  after_refusal : (f : SessionFault) → Inv m (Stepped p z (Err f) ∷ h) s
   after_refusal f = record {
     net = inv.net;
     orderly = inv.orderly;
@@ -70,28 +67,28 @@ module _ (m : Capacity) (h : List Event) (s : State) (inv : Inv m h s) (p z : �
     lone = inv.lone;
     balanced = none_sold m h s inv.balanced;
     covered = tt;
-    within = still s.phase inv.within;
+    within = still s.round inv.within;
   }
     where
-      still : (ph : Phase) → Within h ph → Within (Stepped p z (step.Refused f) ∷ h) ph
-      still Quiet w = w
-      still (Under r) w = w
+      still : (ph : Option Round) → Within h ph → Within (Stepped p z (Err f) ∷ h) ph
+      still None w = w
+      still (Some r) w = w
 
-  module _ (r : Round) (under : s.phase ≡ Under r) where
-    clear_under : Clear s.capacity s.book (Under r)
+  module _ (r : Round) (under : s.round ≡ Some r) where
+    clear_under : Clear s.capacity s.book (Some r)
     clear_under = subst (Clear s.capacity s.book) under inv.clear
 
     lone_under : (x : Order) → x ∈ s.book → is_ioc x.kind ≡ true → Lone r x
-    lone_under x i k = subst (λ (ph : Phase). MayBeIoc ph x) under (inv.lone x i k)
+    lone_under x i k = subst (λ (ph : Option Round). MayBeIoc ph x) under (inv.lone x i k)
 
     within_under : steps h + smaller (traded_contract r) (standing h) ≤ bound h
     within_under = subst (Within h) under inv.within
 
-  after_end : (t : State) → Ends s t → Inv m (Stepped p z step.Done ∷ h) t
+  after_end : (t : State) → Ends s t → Inv m (Stepped p z (Ok None) ∷ h) t
   after_end t x =
       let r = x.round in
       let lone = lone_under r x.under_way in
-      subst (Inv m (Stepped p z step.Done ∷ h)) (sym x.state) (record {
+      subst (Inv m (Stepped p z (Ok None) ∷ h)) (sym x.state) (record {
         net = inv.net;
         orderly = rested_orderly r s.book inv.orderly;
         clear = clear_part s.capacity s.book (rested r s.book) (λ b o f. none_facing s.capacity s.book r x.none b o f (clear_under r x.under_way b o f)) (rested_part r s.book);
@@ -99,18 +96,18 @@ module _ (m : Capacity) (h : List Event) (s : State) (inv : Inv m h s) (p z : �
         lone = none_rests r s.book lone;
         balanced = none_sold m h s inv.balanced;
         covered = tt;
-        within = last (steps h) (bound h) (smaller (traded_contract r) (standing h)) (within_under r x.under_way);
+        within = omega (arith, within_under r x.under_way);
       })
-    where
-      last : (n b k : ℕ) → n + k ≤ b → n + 1 ≤ b + 1
-      last n b k l = omega arith
 
-  module _ (y : Trade) (places : List ℕ) (t : State) (x : Makes s (logged y places) t) where
+  module _ (u : Traded) (t : State) (x : Makes s (logged u.trade u.route) t) where
+    abbrev y : Trade
+    y = u.trade
+
     abbrev r : Round
     r = x.round
 
     abbrev route : List ℕ
-    route = (logged y places).route
+    route = (logged u.trade u.route).route
 
     abbrev after : Capacity
     after = carried s.capacity y.contract y.quantity route
@@ -125,12 +122,12 @@ module _ (m : Capacity) (h : List Event) (s : State) (inv : Inv m h s) (p z : �
     carries : Carries s.capacity y.contract (order_at s.book x.deal.j).area (order_at s.book x.deal.i).area (min (order_at s.book x.deal.i).shown (order_at s.book x.deal.j).shown) y.quantity route
     carries = deal_carries s.capacity s.book r y route ∣ inv.orderly ∣₁ x.deal
 
-    clear₂ : Clear after (settled y.buy y.sell y.quantity s.book) (Under r)
+    clear₂ : Clear after (settled y.buy y.sell y.quantity s.book) (Some r)
     clear₂ =
         let b = order_at s.book x.deal.i in
         let o = order_at s.book x.deal.j in
         let path : Path (OpenIn s.capacity b.contract) o.area b.area route = subst (λ c. Path (OpenIn s.capacity c) o.area b.area route) (sym same_contract) carries.path in
-        subst (λ c. Clear (carried s.capacity c y.quantity route) (settled y.buy y.sell y.quantity s.book) (Under r)) same_contract
+        subst (λ c. Clear (carried s.capacity c y.quantity route) (settled y.buy y.sell y.quantity s.book) (Some r)) same_contract
         (clear_trade s.capacity s.book inv.orderly.distinct r b o (clear_under r x.under_way) best y.quantity route path y.buy y.sell)
 
     moved : Moved s.capacity after y.contract y.seller y.buyer y.quantity
@@ -140,25 +137,22 @@ module _ (m : Capacity) (h : List Event) (s : State) (inv : Inv m h s) (p z : �
         let from : Path (OpenIn s.capacity c) y.seller b route = subst (λ a. Path (OpenIn s.capacity c) a b route) (sym x.deal.seller) carries.path in
         carried_moves s.capacity inv.net c y.quantity y.seller y.buyer route (subst (λ a. Path (OpenIn s.capacity c) y.seller a route) (sym x.deal.buyer) from)
 
-    after_deal : Inv m (Stepped p z (step.Traded y places) ∷ h) t
-    after_deal = subst (Inv m (Stepped p z (step.Traded y places) ∷ h)) (sym x.state) (record {
+    after_deal : Inv m (Stepped p z (Ok (Some u)) ∷ h) t
+    after_deal = subst (Inv m (Stepped p z (Ok (Some u)) ∷ h)) (sym x.state) (record {
       net = subst Net (sym (carried_joins s.capacity y.contract y.quantity route)) inv.net;
       orderly = orderly_settled y.buy y.sell y.quantity s.book inv.orderly;
       clear = subst (Clear after (settled y.buy y.sell y.quantity s.book)) (sym x.under_way) clear₂;
       agree = agree_deal s.capacity s.book r y route inv.orderly x.deal (standing h) inv.agree;
       lone = λ o i k.
           let l = settled_later y.buy y.sell y.quantity o s.book i in
-          subst (λ (ph : Phase). MayBeIoc ph o) (sym x.under_way) (ioc_later r o l.0 l.2 (lone_under r x.under_way l.0 l.1 (ap is_ioc (sym l.2.kind) ∙ k)));
+          subst (λ (ph : Option Round). MayBeIoc ph o) (sym x.under_way) (ioc_later r o l.0 l.2 (lone_under r x.under_way l.0 l.1 (ap is_ioc (sym l.2.kind) ∙ k)));
       balanced = more_sold m h s inv.balanced after (only_at y.contract y.seller y.quantity) (only_at y.contract y.buyer y.quantity) moved;
       covered = (carried_granted s.capacity y.contract _ _ _ y.quantity route carries).1;
-      within = subst (Within (Stepped p z (step.Traded y places) ∷ h)) (sym x.under_way)
-          (one_more (steps h) (bound h) _ (smaller (traded_contract r) (standing h)) (smaller_deal s.capacity s.book r y route inv.orderly x.deal (standing h) inv.agree) (within_under r x.under_way));
+      within = subst (Within (Stepped p z (Ok (Some u)) ∷ h)) (sym x.under_way)
+          (omega (arith, smaller_deal s.capacity s.book r y route inv.orderly x.deal (standing h) inv.agree, within_under r x.under_way));
     })
-      where
-        one_more : (n b k j : ℕ) → k + 1 ≤ j → n + j ≤ b → (n + 1) + k ≤ b
-        one_more n b k j l w = omega arith
 
   pub after_step : (a : StepAnswer) (t : State) → StepAnswered s p z a t → Inv m (Stepped p z a ∷ h) t
-  after_step (step.Refused f) t x = subst (Inv m (Stepped p z (step.Refused f) ∷ h)) (sym x.1) (after_refusal f)
-  after_step (step.Traded y places) t x = after_deal y places t x.1
-  after_step step.Done t x = after_end t x.1
+  after_step (Err f) t x = subst (Inv m (Stepped p z (Err f) ∷ h)) (sym x.1) (after_refusal f)
+  after_step (Ok (Some u)) t x = after_deal u t x.1
+  after_step (Ok None) t x = after_end t x.1

@@ -1,5 +1,5 @@
 -- A trade lowers what is open on each side of its contract, and the contract of a number is that of its order.
-use Rattle.std.proofs.Common.{◌≡◌, ℕ, ◌+◌, ◌≤◌, min, Bool, true, false, cond, ◌&&◌, eqb, List, [], ◌∷◌, map, filter, sym, refl, ap, ◌∙◌, subst, inl, inr, arith}
+use Rattle.std.proofs.Common.{◌≡◌, ℕ, ◌+◌, ◌≤◌, Bool, true, false, cond, ◌&&◌, eqb, List, [], ◌∷◌, map, filter, sym, refl, ap, ◌∙◌, subst, inl, inr, arith}
 use Rattle.std.proofs.lemmas.Bool.{cases_eq, true≢false, cond-true, cond-false, eq-eqb, ne_eqb, and_from, or_left, or_right}
 use Rattle.book.specs.declared.rows.Side.{Side}
 use Rattle.book.specs.declared.rows.Side.TheVariants.{Buy, Sell}
@@ -21,14 +21,8 @@ share c d x = cond (counts c d x) (still_open x) 0
 
 -- fewer stand
 kept_cons : (c : ℕ) (d : Side) (p : Standing → Bool) (x : Standing) (l : List Standing) (t : Bool) → open_on c d (filter p l) ≤ open_on c d l → open_on c d (cond t (x ∷ filter p l) (filter p l)) ≤ share c d x + open_on c d l
-kept_cons c d p x l true h = plus (share c d x) (open_on c d (filter p l)) (open_on c d l) h
-  where
-    plus : (a u v : ℕ) → u ≤ v → a + u ≤ a + v
-    plus a u v h = omega arith
-kept_cons c d p x l false h = plus (share c d x) (open_on c d (filter p l)) (open_on c d l) h
-  where
-    plus : (a u v : ℕ) → u ≤ v → u ≤ a + v
-    plus a u v h = omega arith
+kept_cons c d p x l true h = omega arith
+kept_cons c d p x l false h = omega arith
 
 pub open_kept : (c : ℕ) (d : Side) (p : Standing → Bool) (l : List Standing) → open_on c d (filter p l) ≤ open_on c d l
 open_kept c d p [] = omega arith
@@ -45,10 +39,7 @@ share_less c d q x false = cond_less (counts c d x) (still_open x) (still_open x
 
 open_map : (c : ℕ) (d : Side) (t : Trade) (l : List Standing) → open_on c d (map (with_trade t) l) ≤ open_on c d l
 open_map c d t [] = omega arith
-open_map c d t (x ∷ l) = plus _ _ _ _ (share_less c d t.quantity x (traded_in t.buy t.sell x.given.number)) (open_map c d t l)
-  where
-    plus : (a b u v : ℕ) → a ≤ b → u ≤ v → a + u ≤ b + v
-    plus a b u v h k = omega arith
+open_map c d t (x ∷ l) = omega (arith, share_less c d t.quantity x (traded_in t.buy t.sell x.given.number), open_map c d t l)
 
 same_side_self : (d : Side) → same_side d d ≡ true
 same_side_self Buy = refl
@@ -59,10 +50,7 @@ share_hit : (c : ℕ) (d : Side) (q : ℕ) (x : Standing) (t : Bool) → t ≡ t
 share_hit c d q x true h e f l =
     let side = x.given.terms.side in
     let g : counts c d x ≡ true = and_from _ _ (eq-eqb x.given.contract c e) (subst (λ (z : Side). same_side side z ≡ true) f (same_side_self side)) in
-    both (still_open (more q x)) (still_open x) (counts c d x) g (omega arith)
-  where
-    both : (a b : ℕ) (t : Bool) → t ≡ true → a + q ≤ b → cond t a 0 + q ≤ cond t b 0
-    both a b t e h = rw e h
+    rw g (omega arith)
 share_hit c d q x false h e f l = absurd (true≢false (sym h))
 
 open_hit : (c : ℕ) (d : Side) (t : Trade) (w : Standing) (l : List Standing) → w ∈ l → traded_in t.buy t.sell w.given.number ≡ true → w.given.contract ≡ c → w.given.terms.side ≡ d → t.quantity ≤ still_open w → open_on c d (map (with_trade t) l) + t.quantity ≤ open_on c d l
@@ -70,17 +58,10 @@ open_hit c d t w [] i h e f k = absurd i
 open_hit c d t w (x ∷ l) i h e f k =
     elim i [
       | inl g ↦
-          here _ _ _ _ t.quantity
-          (subst (λ (z : Standing). share c d (with_trade t z) + t.quantity ≤ share c d z) (sym g) (share_hit c d t.quantity w (traded_in t.buy t.sell w.given.number) h e f k))
-          (open_map c d t l)
-      | inr g ↦ there _ _ _ _ t.quantity (share_less c d t.quantity x (traded_in t.buy t.sell x.given.number)) (open_hit c d t w l g h e f k)
+          let hit : share c d (with_trade t x) + t.quantity ≤ share c d x = subst (λ (z : Standing). share c d (with_trade t z) + t.quantity ≤ share c d z) (sym g) (share_hit c d t.quantity w (traded_in t.buy t.sell w.given.number) h e f k) in
+          omega (arith, hit, open_map c d t l)
+      | inr g ↦ omega (arith, share_less c d t.quantity x (traded_in t.buy t.sell x.given.number), open_hit c d t w l g h e f k)
     ]
-  where
-    here : (a b u v q : ℕ) → a + q ≤ b → u ≤ v → a + u + q ≤ b + v
-    here a b u v q h k = omega arith
-
-    there : (a b u v q : ℕ) → a ≤ b → u + q ≤ v → a + u + q ≤ b + v
-    there a b u v q h k = omega arith
 
 -- a trade of at least 1 between the buy b and the sell s of the contract c lowers the smaller side, whatever leaves then
 pub smaller_after : (c : ℕ) (x : Trade) (b s : Standing) (p : Standing → Bool) (l : List Standing) → b ∈ l → s ∈ l → b.given.number ≡ x.buy → s.given.number ≡ x.sell
@@ -89,12 +70,11 @@ pub smaller_after : (c : ℕ) (x : Trade) (b s : Standing) (p : Standing → Boo
 smaller_after c x b s p l i j nb ns cb cs buys sells some lb ls =
     let hb = or_left (has_number x.buy b) (has_number x.sell b) (eq-eqb b.given.number x.buy nb) in
     let hs = or_right (has_number x.buy s) (has_number x.sell s) (eq-eqb s.given.number x.sell ns) in
-    least _ _ _ _ _ _ x.quantity some
-    (open_kept c Buy p (map (with_trade x) l)) (open_kept c Sell p (map (with_trade x) l))
-    (open_hit c Buy x b l i hb cb buys lb) (open_hit c Sell x s l j hs cs sells ls)
-  where
-    least : (a b a₂ b₂ a₃ b₃ q : ℕ) → 1 ≤ q → a ≤ a₂ → b ≤ b₂ → a₂ + q ≤ a₃ → b₂ + q ≤ b₃ → min a b + 1 ≤ min a₃ b₃
-    least a b a₂ b₂ a₃ b₃ q h k m n r = omega arith
+    let buys_kept = open_kept c Buy p (map (with_trade x) l) in
+    let sells_kept = open_kept c Sell p (map (with_trade x) l) in
+    let buy = open_hit c Buy x b l i hb cb buys lb in
+    let sell = open_hit c Sell x s l j hs cs sells ls in
+    omega (arith, buys_kept, sells_kept, buy, sell)
 
 -- some order has the number n, and each that has it is of the contract c
 pub contract_is : (n c : ℕ) (l : List Standing) → ((w : Standing) → w ∈ l → w.given.number ≡ n → w.given.contract ≡ c) → (w : Standing) → w ∈ l → w.given.number ≡ n → contract_of n l ≡ c

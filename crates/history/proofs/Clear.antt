@@ -1,5 +1,6 @@
 -- Every executable pair is one of the round under way; so while quiet there is none.
-use Rattle.std.proofs.Common.{◌≡◌, ℕ, Bool, ◌&&◌, leb, List, [], ◌∷◌, ◌++◌, pos, ◌+ℤ◌, ◌-ℤ◌, sym, ap, ◌∙◌, subst, inl, inr}
+use Rattle.std.proofs.Common.{◌≡◌, ℕ, Bool, ◌&&◌, leb, List, [], ◌∷◌, ◌++◌, pos, ◌+ℤ◌, ◌-ℤ◌, sym, ap, ◌∙◌, subst, inl, inr, Some, None, Option}
+use Rattle.matching.specs.declared.round.Round.{Round}
 use lib.Signed.{le_z}
 use mathlib.Core.Path.{fun_ext}
 use Rattle.std.proofs.lemmas.Bool.{cases_eq}
@@ -13,18 +14,16 @@ use Rattle.matching.specs.declared.round.Round.TheVariants.{Regular, Batch}
 use Rattle.matching.specs.Orders.{Concerns}
 use Rattle.routes.specs.Laws.{Reach}
 use Rattle.routes.specs.Paths.{Holds}
-use Rattle.session.specs.declared.phases.Phase.{Phase}
-use Rattle.session.specs.declared.phases.Phase.TheVariants.{Quiet, Under}
 use Rattle.history.specs.Standing.{◌∈◌}
 use Rattle.history.proofs.Facing.{Facing}
 use Rattle.history.proofs.Members.{in_push}
 
 -- a pair of the round under way
-abbrev pub InPhase : Phase → Order → Order → Type 0
-InPhase Quiet b o = ⊥
-InPhase (Under r) b o = Concerns r b o
+abbrev pub InPhase : Option Round → Order → Order → Type 0
+InPhase None b o = ⊥
+InPhase (Some r) b o = Concerns r b o
 
-abbrev pub Clear : Capacity → List Order → Phase → Type 0
+abbrev pub Clear : Capacity → List Order → Option Round → Type 0
 Clear m os ph = (b o : Order) → Facing m os b o → InPhase ph b o
 
 -- the orders of the one stand in the other
@@ -52,11 +51,11 @@ notice_elsewhere m k x y f c n = fun_ext (λ a. fun_ext (λ b. ap (λ z. leb c 2
         λ i. ((pos (p i) -ℤ pos (q i)) +ℤ pos (r i)) -ℤ (pos (m.held c a b) +ℤ m.net c a b)
 
 -- fewer orders
-pub clear_part : (m : Capacity) (os xs : List Order) → Clear m os Quiet → Part xs os → Clear m xs Quiet
+pub clear_part : (m : Capacity) (os xs : List Order) → Clear m os None → Part xs os → Clear m xs None
 clear_part m os xs none part b o f = none b o (record { buy_in = part b f.buy_in; sell_in = part o f.sell_in; meets = f.meets; leads = f.leads })
 
 -- one order more, which is incoming
-pub clear_push : (m : Capacity) (os xs : List Order) (z : Order) → Clear m os Quiet → Part xs os → Clear m (xs ++ z ∷ []) (Under (Regular z.contract z.number))
+pub clear_push : (m : Capacity) (os xs : List Order) (z : Order) → Clear m os None → Part xs os → Clear m (xs ++ z ∷ []) (Some (Regular z.contract z.number))
 clear_push m os xs z none part b o f =
     elim (in_push b z xs f.buy_in) [
       | inr e ↦ (ap (λ (y : Order). y.contract) (sym e), inl (ap (λ (y : Order). y.number) (sym e)))
@@ -67,7 +66,7 @@ clear_push m os xs z none part b o f =
     ]
 
 -- other directions open in one contract
-pub clear_batch : (m n : Capacity) (os : List Order) (c : ℕ) → Clear m os Quiet → SameElsewhere m n c → Clear n os (Under (Batch c))
+pub clear_batch : (m n : Capacity) (os : List Order) (c : ℕ) → Clear m os None → SameElsewhere m n c → Clear n os (Some (Batch c))
 clear_batch m n os c none same b o f =
     elim (cases_eq b.contract c) [
       | inl e ↦ e

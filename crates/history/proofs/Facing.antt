@@ -1,5 +1,5 @@
 -- Executable pairs by the orders themselves, wherever they stand in the book.
-use Rattle.std.proofs.Common.{◌≡◌, ℕ, suc, ◌<◌, List, [], ◌∷◌, length, ℤ, ◌≤ℤ◌, sym, ◌∙◌, subst, inl, inr, arith}
+use Rattle.std.proofs.Common.{◌≡◌, ℕ, suc, ◌<◌, List, [], ◌∷◌, length, ℤ, ◌≤ℤ◌, sym, subst, inl, inr, arith}
 use Rattle.std.proofs.lemmas.Int.{ints}
 use Rattle.book.specs.declared.rows.Order.{Order}
 use Rattle.book.specs.declared.rows.Side.{Side}
@@ -44,22 +44,19 @@ pub of_contract : (r : Round) (b o : Order) → Concerns r b o → b.contract �
 of_contract (Regular c n) b o h = h.0
 of_contract (Batch c) b o h = h
 
-buy≢sell : Buy ≡ Sell → ⊥
-buy≢sell e = let z : ◌≡◌ {A = ℕ} 0 1 = cc in omega arith
-
 pub not_both_sides : (d : Side) → d ≡ Buy → d ≡ Sell → ⊥
-not_both_sides d e f = buy≢sell (sym e ∙ f)
+not_both_sides d e f = cc
 
 -- a higher rank has no worse limit
 buy_ahead : (d e : Side) (l k : ℤ) (i j : ℕ) → d ≡ Buy → Ahead d e l k i j → k ≤ℤ l
 buy_ahead Buy Buy l k i j b h = elim h [ inl a ↦ omega (arith, ints) | inr a ↦ let s = a.0 in omega (arith, ints) ]
 buy_ahead Buy Sell l k i j b h = absurd h
-buy_ahead Sell e l k i j b h = absurd (buy≢sell (sym b))
+buy_ahead Sell e l k i j b h = cc
 
 sell_ahead : (d e : Side) (l k : ℤ) (i j : ℕ) → d ≡ Sell → Ahead d e l k i j → l ≤ℤ k
 sell_ahead Sell Sell l k i j b h = elim h [ inl a ↦ omega (arith, ints) | inr a ↦ let s = a.0 in omega (arith, ints) ]
 sell_ahead Sell Buy l k i j b h = absurd h
-sell_ahead Buy e l k i j b h = absurd (buy≢sell b)
+sell_ahead Buy e l k i j b h = cc
 
 same_limit : (z : ℤ) → z ≤ℤ z
 same_limit z = omega (arith, ints)

@@ -1,5 +1,6 @@
 -- What a refusal tells is its fault: no two faults tell the same.
 use Rattle.std.proofs.Common.{◌≡◌, ℕ, cond, eqb, ℤ, pos, Some, None, Option, sym, refl, ap, ◌∙◌}
+use Rattle.capacity.specs.declared.direction.Direction.{Direction}
 use Rattle.capacity.specs.declared.faults.RegisterFault.{RegisterFault}
 use Rattle.capacity.specs.declared.faults.RegisterFault.TheVariants as register
 use Rattle.capacity.specs.Faults as capacity
@@ -27,24 +28,25 @@ atc_in (Some z) = z
 
 abbrev register_fault : capacity.Refusal → RegisterFault
 register_fault r =
-    cond (eqb r.number 2) (register.Contract r.contract r.from r.to)
-    (cond (eqb r.number 6) (register.Quantity r.contract r.from r.to)
-    (cond (eqb r.number 11) (register.Unjoined r.contract r.from r.to)
-    (cond (eqb r.number 12) (register.Figure r.contract r.from r.to)
-    (cond (eqb r.number 13) (register.Short r.contract r.from r.to (atc_in r.short_of))
-    (register.Full r.contract r.from r.to)))))
+    let d : Direction = record { contract = r.contract; from = r.from; to = r.to } in
+    cond (eqb r.number 2) (register.Contract d)
+    (cond (eqb r.number 6) (register.Quantity d)
+    (cond (eqb r.number 11) (register.Unjoined d)
+    (cond (eqb r.number 12) (register.Figure d)
+    (cond (eqb r.number 13) (register.Short d (atc_in r.short_of))
+    (register.Full d)))))
 
 abbrev fault : Refusal → SessionFault
 fault (own n) = own_fault n
 fault (registers r) = Register (register_fault r)
 
 register_told : (f : RegisterFault) → register_fault (capacity.told f) ≡ f
-register_told (register.Contract c a b) = refl
-register_told (register.Quantity c a b) = refl
-register_told (register.Unjoined c a b) = refl
-register_told (register.Figure c a b) = refl
-register_told (register.Short c a b z) = refl
-register_told (register.Full c a b) = refl
+register_told (register.Contract d) = refl
+register_told (register.Quantity d) = refl
+register_told (register.Unjoined d) = refl
+register_told (register.Figure d) = refl
+register_told (register.Short d z) = refl
+register_told (register.Full d) = refl
 
 fault_told : (f : SessionFault) → fault (told f) ≡ f
 fault_told Pass = refl

@@ -1,4 +1,4 @@
--- Lemmas, and the laws: `laws-hold` and `lawfully` in Together, `one_answer` in Once, `one-turn` in OneTurn.
+-- Lemmas, and the laws: `laws_hold` and `lawfully` in Together, `one_answer` in Once, `one_turn` in OneTurn.
 pub mod Members
 pub mod Numbered
 pub mod Rows

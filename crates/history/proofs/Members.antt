@@ -1,6 +1,5 @@
 -- Laws of membership.
 use Rattle.std.proofs.Common.{◌≡◌, Bool, true, false, cond, ◌⊎◌, List, [], ◌∷◌, ◌++◌, map, filter, sym, refl, ap, ◌∙◌, subst, inl, inr}
-use Rattle.std.proofs.lemmas.Bool.{true≢false}
 use Rattle.history.specs.Standing.{◌∈◌}
 
 module _ {X : Type 0} where
@@ -40,7 +39,7 @@ module _ {X : Type 0} where
 
   head_kept : (p : X → Bool) (x : X) (ys : List X) (t : Bool) → t ≡ true → x ∈ cond t (x ∷ filter p ys) (filter p ys)
   head_kept p x ys true e = inl refl
-  head_kept p x ys false e = absurd (true≢false (sym e))
+  head_kept p x ys false e = cc
 
   pub kept_in : (p : X → Bool) (x : X) (xs : List X) → x ∈ xs → p x ≡ true → x ∈ filter p xs
   kept_in p x [] h e = absurd h

@@ -1,5 +1,5 @@
 -- The net use of the areas after each event, from what was sold, bought and granted.
-use Rattle.std.proofs.Common.{◌≡◌, ℕ, ◌+◌, List, [], ◌∷◌, ℤ, pos, ◌+ℤ◌, ◌-ℤ◌, refl, arith}
+use Rattle.std.proofs.Common.{◌≡◌, ℕ, ◌+◌, List, [], ◌∷◌, pos, ◌+ℤ◌, ◌-ℤ◌, refl, arith}
 use Rattle.std.proofs.lemmas.Int.{ints}
 use Rattle.capacity.specs.Meaning.{Capacity, taken}
 use Rattle.flows.proofs.Granted.{carried_on}
@@ -19,22 +19,16 @@ pub carried_joins : (m : Capacity) (c q : ℕ) (xs : List ℕ) → (carried m c 
 carried_joins m c q [] = refl
 carried_joins m c q (a ∷ xs) = joins_on c q m a xs
 
-grant_sum : (v u m : ℤ) (s b o i x y : ℕ) → u -ℤ m ≡ (pos s -ℤ pos b) +ℤ (pos o -ℤ pos i) → v +ℤ pos y ≡ u +ℤ pos x → v -ℤ m ≡ (pos s -ℤ pos b) +ℤ (pos (x + o) -ℤ pos (y + i))
-grant_sum v u m s b o i x y h k = omega (arith, ints)
-
-sale_sum : (v u m : ℤ) (s b o i x y : ℕ) → u -ℤ m ≡ (pos s -ℤ pos b) +ℤ (pos o -ℤ pos i) → v +ℤ pos y ≡ u +ℤ pos x → v -ℤ m ≡ (pos (x + s) -ℤ pos (y + b)) +ℤ (pos o -ℤ pos i)
-sale_sum v u m s b o i x y h k = omega (arith, ints)
-
 -- from s to n each area carries x more out and y less
 module _ (m : Capacity) (h : List Event) (s : State) (before : Balanced m h s) where
   abbrev More : Capacity → (ℕ → ℕ → ℕ) → (ℕ → ℕ → ℕ) → Type 0
   More n x y = (c a : ℕ) → net_out n c a +ℤ pos (y c a) ≡ net_out s.capacity c a +ℤ pos (x c a)
 
   pub more_granted : (n : Capacity) (x y : ℕ → ℕ → ℕ) → More n x y → (c a : ℕ) → net_out n c a -ℤ net_out m c a ≡ (pos (sold c a h) -ℤ pos (bought c a h)) +ℤ (pos (x c a + granted_out c a h) -ℤ pos (y c a + granted_in c a h))
-  more_granted n x y e c a = grant_sum (net_out n c a) (net_out s.capacity c a) (net_out m c a) (sold c a h) (bought c a h) (granted_out c a h) (granted_in c a h) (x c a) (y c a) (before c a) (e c a)
+  more_granted n x y e c a = omega (arith, ints, before c a, e c a)
 
   pub more_sold : (n : Capacity) (x y : ℕ → ℕ → ℕ) → More n x y → (c a : ℕ) → net_out n c a -ℤ net_out m c a ≡ (pos (x c a + sold c a h) -ℤ pos (y c a + bought c a h)) +ℤ (pos (granted_out c a h) -ℤ pos (granted_in c a h))
-  more_sold n x y e c a = sale_sum (net_out n c a) (net_out s.capacity c a) (net_out m c a) (sold c a h) (bought c a h) (granted_out c a h) (granted_in c a h) (x c a) (y c a) (before c a) (e c a)
+  more_sold n x y e c a = omega (arith, ints, before c a, e c a)
 
   -- nothing granted, and nothing sold
   pub none_granted : (c a : ℕ) → net_out s.capacity c a -ℤ net_out m c a ≡ (pos (sold c a h) -ℤ pos (bought c a h)) +ℤ (pos (0 + granted_out c a h) -ℤ pos (0 + granted_in c a h))

@@ -3,8 +3,7 @@ use Rattle.std.proofs.Common.{◌≡◌, ℕ, Bool, true, false, List, [], ◌�
 use Rattle.session.specs.Rounds.{Logged, Ran}
 use Rattle.session.specs.State.{State}
 use Rattle.events.specs.declared.calls.Call.{Call}
-use Rattle.events.specs.declared.events.Answer.{Answer}
-use Rattle.events.specs.Events.{round_follows}
+use Rattle.events.specs.Events.{Answer, round_follows}
 use Rattle.events.specs.Turns.{Follows, Turned}
 use Rattle.history.proofs.Once.{one_trade, one_end, trade_or_end, one_answer}
 

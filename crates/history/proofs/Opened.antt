@@ -1,5 +1,5 @@
 -- A trade of the best pair of a round leaves every executable pair one of the round: the ways that it opens lead no other pair together.
-use Rattle.std.proofs.Common.{◌≡◌, ℕ, List, ℤ, ◌≤ℤ◌, sym, refl, ap, ◌∙◌, subst, inl, inr, arith}
+use Rattle.std.proofs.Common.{◌≡◌, ℕ, List, ℤ, ◌≤ℤ◌, sym, ap, ◌∙◌, subst, inl, inr, arith, Some}
 use Rattle.std.proofs.lemmas.Int.{ints, by_lt_z}
 use Rattle.std.proofs.lemmas.Bool.{cases_eq}
 use Rattle.book.specs.declared.rows.Order.{Order}
@@ -15,7 +15,6 @@ use Rattle.matching.specs.declared.round.Round.TheVariants.{Regular, Batch}
 use Rattle.matching.specs.Orders.{Meeting, Concerns}
 use Rattle.routes.specs.Laws.{Reach}
 use Rattle.routes.specs.Paths.{Path}
-use Rattle.session.specs.declared.phases.Phase.TheVariants.{Under}
 use Rattle.history.specs.Standing.{◌∈◌}
 use Rattle.history.proofs.Clear.{Clear, open_less}
 use Rattle.history.proofs.Facing.{Facing, Best, not_both_sides}
@@ -23,9 +22,9 @@ use Rattle.history.proofs.Numbered.{one_order}
 use Rattle.history.proofs.Rows.{NoBetter, Later, settled_later}
 
 limits_met : (b₂ b o₂ o : ℤ) (d e : Side) → d ≡ Buy → e ≡ Sell → NoBetter d b₂ b → NoBetter e o₂ o → o₂ ≤ℤ b₂ → o ≤ℤ b
-limits_met b₂ b o₂ o Buy Buy h k p q m = absurd (not_both_sides Buy refl k)
+limits_met b₂ b o₂ o Buy Buy h k p q m = cc
 limits_met b₂ b o₂ o Buy Sell h k p q m = omega (arith, ints)
-limits_met b₂ b o₂ o Sell d h k p q m = absurd (not_both_sides Sell h refl)
+limits_met b₂ b o₂ o Sell d h k p q m = cc
 
 -- a pair that meets later met before
 meeting_before : (b₂ o₂ b o : Order) → Meeting b₂ o₂ → Later b₂ b → Later o₂ o → Meeting b o
@@ -44,7 +43,7 @@ concerns_later (Regular c n) b₂ o₂ b o p q h = (p.contract ∙ h.0, elim h.1
 concerns_later (Batch c) b₂ o₂ b o p q h = p.contract ∙ h
 
 -- where (B, O) is the best pair of a regular round with the incoming order n, no other pair is led together by it
-module _ (m : Capacity) (os : List Order) (distinct : Distinct os) (c n : ℕ) (B O : Order) (clear : Clear m os (Under (Regular c n))) (best : Best m os (Regular c n) B O)
+module _ (m : Capacity) (os : List Order) (distinct : Distinct os) (c n : ℕ) (B O : Order) (clear : Clear m os (Some (Regular c n))) (best : Best m os (Regular c n) B O)
     (b o : Order) (i : b ∈ os) (j : o ∈ os) (f : Meeting b o) (e : b.contract ≡ B.contract)
     (to : Reach (OpenIn m B.contract) o.area B.area) (from : Reach (OpenIn m B.contract) O.area b.area) where
   -- B and O are not of one number
@@ -85,7 +84,7 @@ module _ (m : Capacity) (os : List Order) (distinct : Distinct os) (c n : ℕ) (
       ]
 
 -- so a pair that it does lead together is one of the round
-opened : (m : Capacity) (os : List Order) → Distinct os → (r : Round) (B O : Order) → Clear m os (Under r) → Best m os r B O → (b o : Order) → b ∈ os → o ∈ os → Meeting b o → b.contract ≡ B.contract
+opened : (m : Capacity) (os : List Order) → Distinct os → (r : Round) (B O : Order) → Clear m os (Some r) → Best m os r B O → (b o : Order) → b ∈ os → o ∈ os → Meeting b o → b.contract ≡ B.contract
     → Reach (OpenIn m B.contract) o.area B.area → Reach (OpenIn m B.contract) O.area b.area → Concerns r b o
 opened m os d (Batch c) B O clear best b o i j f e to from = e ∙ best.concerned
 opened m os d (Regular c n) B O clear best b o i j f e to from = (
@@ -100,7 +99,7 @@ opened m os d (Regular c n) B O clear best b o i j f e to from = (
 )
 
 -- a trade of the best pair, along a path from its sell to its buy
-module _ (m : Capacity) (os : List Order) (distinct : Distinct os) (r : Round) (B O : Order) (clear : Clear m os (Under r)) (best : Best m os r B O)
+module _ (m : Capacity) (os : List Order) (distinct : Distinct os) (r : Round) (B O : Order) (clear : Clear m os (Some r)) (best : Best m os r B O)
     (q : ℕ) (route : List ℕ) (path : Path (OpenIn m B.contract) O.area B.area route) where
   -- of a pair that meets, and that a way leads together after the trade
   pair_before : (b o : Order) → b ∈ os → o ∈ os → Meeting b o → Reach (OpenIn (carried m B.contract q route) b.contract) o.area b.area → Concerns r b o
@@ -114,7 +113,7 @@ module _ (m : Capacity) (os : List Order) (distinct : Distinct os) (r : Round) (
         ]
       ]
 
-  pub clear_trade : (bn sn : ℕ) → Clear (carried m B.contract q route) (settled bn sn q os) (Under r)
+  pub clear_trade : (bn sn : ℕ) → Clear (carried m B.contract q route) (settled bn sn q os) (Some r)
   clear_trade bn sn b₂ o₂ f =
       let p = settled_later bn sn q b₂ os f.buy_in in
       let s = settled_later bn sn q o₂ os f.sell_in in

@@ -1,11 +1,10 @@
 -- The laws, from what holds after every list of events.
-use Rattle.std.proofs.Common.{◌≡◌, ℕ, ◌+◌, ◌≤◌, List, [], ◌∷◌, ◌≤ℤ◌, sym, refl, ◌∙◌, subst, arith}
+use Rattle.std.proofs.Common.{◌≡◌, ℕ, ◌+◌, ◌≤◌, List, [], ◌∷◌, ◌≤ℤ◌, sym, refl, ◌∙◌, subst, arith, Some, None, Option}
+use Rattle.matching.specs.declared.round.Round.{Round}
 use Rattle.capacity.specs.Meaning.{Capacity, Sound}
 use Rattle.flows.specs.Flows.{OpenIn}
 use Rattle.routes.specs.Laws.{Reach}
 use Rattle.trades.specs.Deals.{traded_contract}
-use Rattle.session.specs.declared.phases.Phase.{Phase}
-use Rattle.session.specs.declared.phases.Phase.TheVariants.{Quiet, Under}
 use Rattle.session.specs.State.{State}
 use Rattle.events.specs.declared.events.Event.{Event}
 use Rattle.events.specs.declared.events.Event.TheVariants.{Called, Stepped}
@@ -16,10 +15,9 @@ use Rattle.history.specs.Standing.{limit_now, standing, steps, bound, smaller}
 use Rattle.history.proofs.AfterCalls.{after_call}
 use Rattle.history.proofs.AfterSteps.{after_step}
 use Rattle.history.proofs.Invariant.{Inv, Within, at_first, clear_quiet}
-use Rattle.history.proofs.Means.{means}
 
 after_event : (m : Capacity) (h : List Event) (s : State) → Inv m h s → (e : Event) (t : State) → Happens s e t → Inv m (e ∷ h) t
-after_event m h s inv (Called p k a) t x = after_call m h s inv p k a t (means s p k a t x)
+after_event m h s inv (Called p k a) t x = after_call m h s inv p k a t x
 after_event m h s inv (Stepped p z a) t x = after_step m h s inv p z a t x
 
 holds : (m : Capacity) (n : ℕ) → Sound m → (h : List Event) (s : State) → Reached m n h s → Inv m h s
@@ -46,9 +44,9 @@ none_left m h s inv quiet b o x =
       leads = subst (λ k. Reach (OpenIn c k) q.0.area p.0.area) (sym p.2.contract) from;
     })
 
-bounded : (h : List Event) (s : State) (ph : Phase) → s.phase ≡ ph → Within h ph → Bounded h s
-bounded h s Quiet e w = (w, λ k. e)
-bounded h s (Under r) e w = few (smaller (traded_contract r) (standing h)) w
+bounded : (h : List Event) (s : State) (ph : Option Round) → s.round ≡ ph → Within h ph → Bounded h s
+bounded h s None e w = (w, λ k. e)
+bounded h s (Some r) e w = few (smaller (traded_contract r) (standing h)) w
   where
     few : (z : ℕ) → steps h + z ≤ bound h → Bounded h s
     few z g = (omega arith, λ k. absurd (omega arith))
@@ -56,7 +54,7 @@ bounded h s (Under r) e w = few (smaller (traded_contract r) (standing h)) w
 pub laws_hold : LawsHold
 laws_hold m n h s sound r =
     let inv = holds m n sound h s r in
-    record { none_left = none_left m h s inv; balanced = inv.balanced; covered = inv.covered; bounded = bounded h s s.phase refl inv.within }
+    record { none_left = none_left m h s inv; balanced = inv.balanced; covered = inv.covered; bounded = bounded h s s.round refl inv.within }
 
 pub lawfully : (m : Capacity) (n : ℕ) (h : List Event) (s : State) → Sound m → Reached m n h s → Lawfully m n h s
 lawfully m n [] s sound r = (r, laws_hold m n [] s sound r)

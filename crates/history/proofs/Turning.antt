@@ -1,5 +1,5 @@
 -- The events of a turn carry a history on.
-use Rattle.std.proofs.Common.{◌≡◌, ℕ, ◌≤◌, Bool, true, false, cond, List, [], ◌∷◌, map, length, Ok, sym, refl, ap, subst, arith}
+use Rattle.std.proofs.Common.{◌≡◌, ℕ, ◌≤◌, Bool, true, false, cond, List, [], ◌∷◌, map, length, Some, Ok, sym, refl, ap, subst, arith}
 use Rattle.std.proofs.lemmas.List.{take_all, map-id}
 use Rattle.capacity.specs.Meaning.{Capacity}
 use Rattle.capacity.specs.Tests.{answered}
@@ -7,13 +7,11 @@ use Rattle.session.specs.Rounds.{Logged, Makes, Ran}
 use Rattle.session.specs.State.{State}
 use Rattle.session.specs.Steps.{round_here, step_tests}
 use Rattle.events.specs.declared.calls.Call.{Call}
-use Rattle.events.specs.declared.events.Answer.{Answer}
-use Rattle.events.specs.declared.events.StepAnswer.TheVariants.{Traded}
 use Rattle.events.specs.declared.events.Event.{Event}
 use Rattle.events.specs.declared.events.Event.TheVariants.{Called, Stepped}
-use Rattle.events.specs.Events.{logged, round_follows}
+use Rattle.events.specs.Events.{Answer, logged, round_follows}
 use Rattle.events.specs.Turns.{Follows, Turned, with_steps, with_turn}
-use Rattle.events.proofs.Rounds.{round_begun}
+use Rattle.events.proofs.Tests.{round_begun}
 use Rattle.history.specs.History.{Reached}
 
 -- a step over 16 places in a round is not refused
@@ -35,7 +33,7 @@ module _ (placed : Logged → Logged) (same : (s u : State) (x : Logged) → Mak
   ran_reached : (m : Capacity) (n p : ℕ) (xs : List Logged) (h : List Event) (s t : State) → Reached m n h s → round_here s p ≡ true → Ran s xs t → Reached m n (with_steps p (map placed xs) h) t
   ran_reached m n p [] h s t so here r = (s, so, (step_passes s p here, r))
   ran_reached m n p (x ∷ xs) h s t so here (u, makes, rest) =
-      ran_reached m n p xs (Stepped p 16 (Traded (placed x).trade (placed x).route) ∷ h) u t
+      ran_reached m n p xs (Stepped p 16 (Ok (Some (record { trade = (placed x).trade; route = (placed x).route }))) ∷ h) u t
       (s, so, (step_passes s p here, subst (λ (y : Logged). Makes s y u) (sym (same s u x makes)) makes))
       (still_here s u p x makes here) rest
 

@@ -6,18 +6,13 @@ use Rattle.routes.specs.Paths.{Path}
 use Rattle.flows.specs.Balance.{net_out}
 use Rattle.flows.specs.Flows.{OpenIn, NoneBelow}
 use Rattle.session.specs.declared.faults.SessionFault.{SessionFault}
-use Rattle.session.specs.declared.phases.Phase.TheVariants.{Quiet}
 use Rattle.session.specs.Rounds.{Logged}
 use Rattle.session.specs.State.{State}
 use Rattle.events.specs.declared.calls.Call.{Call}
 use Rattle.events.specs.declared.calls.Call.TheVariants.{Enter, Change, Withdraw, Request, Notice, Close}
-use Rattle.events.specs.declared.events.Answer.{Answer}
-use Rattle.events.specs.declared.events.Answer.TheVariants.{Refused, Accepted, Gone}
-use Rattle.events.specs.declared.events.StepAnswer.{StepAnswer}
-use Rattle.events.specs.declared.events.StepAnswer.TheVariants as step
 use Rattle.events.specs.declared.events.Event.{Event}
 use Rattle.events.specs.declared.events.Event.TheVariants.{Called, Stepped}
-use Rattle.events.specs.Events.{Happens, Answered, StepAnswered, logged}
+use Rattle.events.specs.Events.{Answer, StepAnswer, Happens, Answered, StepAnswered, logged}
 use Rattle.history.specs.History.{Reached}
 use Rattle.history.specs.Standing.{◌∈◌, Standing, limit_now, standing, sold, bought, granted_out, granted_in, steps, bound}
 
@@ -33,7 +28,7 @@ pub record Meeting (m : Capacity) (l : List Standing) (b o : Standing) : Type 0 
 
 -- while quiet, no such pair stands
 abbrev pub NoneLeft : List Event → State → Type 0
-NoneLeft h s = s.phase ≡ Quiet → (b o : Standing) → Meeting s.capacity (standing h) b o → ⊥
+NoneLeft h s = s.round ≡ None → (b o : Standing) → Meeting s.capacity (standing h) b o → ⊥
 
 -- the net use that an area carries out, less that at the start, is what it sold less what it bought, plus what was granted out of it less what was granted into it
 abbrev pub Balanced : Capacity → List Event → State → Type 0
@@ -44,19 +39,19 @@ Balanced m h s =
 
 -- no direction that a call or a step used has an ATC below nought
 abbrev pub CoveredCall : Capacity → Call → Answer → Type 0
-CoveredCall m k (Refused f) = Unit {0}
-CoveredCall m (Request c a b q) Accepted = pos 0 ≤ℤ atc m c a b
-CoveredCall m (Enter e) Accepted = Unit {0}
-CoveredCall m (Change n i l q) Accepted = Unit {0}
-CoveredCall m (Withdraw n i) Accepted = Unit {0}
-CoveredCall m (Notice c a b f) Accepted = Unit {0}
-CoveredCall m (Close c) Accepted = Unit {0}
-CoveredCall m k (Gone n) = Unit {0}
+CoveredCall m k (Err f) = Unit {0}
+CoveredCall m (Request d q) (Ok None) = pos 0 ≤ℤ atc m d.contract d.from d.to
+CoveredCall m (Enter e) (Ok None) = Unit {0}
+CoveredCall m (Change c) (Ok None) = Unit {0}
+CoveredCall m (Withdraw n i) (Ok None) = Unit {0}
+CoveredCall m (Notice d f) (Ok None) = Unit {0}
+CoveredCall m (Close c) (Ok None) = Unit {0}
+CoveredCall m k (Ok (Some n)) = Unit {0}
 
 abbrev pub CoveredStep : Capacity → StepAnswer → Type 0
-CoveredStep m (step.Refused f) = Unit {0}
-CoveredStep m (step.Traded x places) = NoneBelow m x.contract (logged x places).route
-CoveredStep m step.Done = Unit {0}
+CoveredStep m (Err f) = Unit {0}
+CoveredStep m (Ok (Some x)) = NoneBelow m x.trade.contract (logged x.trade x.route).route
+CoveredStep m (Ok None) = Unit {0}
 
 -- right after a trade or a grant
 abbrev pub Covered : List Event → State → Type 0
@@ -66,7 +61,7 @@ Covered (Stepped p z a ∷ h) s = CoveredStep s.capacity a
 
 -- a round has no more accepted steps than the smaller side had open as it began, plus one, and one that has had so many is done
 abbrev pub Bounded : List Event → State → Type 0
-Bounded h s = (steps h ≤ bound h + 1) × (steps h ≡ bound h + 1 → s.phase ≡ Quiet)
+Bounded h s = (steps h ≤ bound h + 1) × (steps h ≡ bound h + 1 → s.round ≡ None)
 
 pub record Lawful (m : Capacity) (h : List Event) (s : State) : Type 0 where
   pub none_left : NoneLeft h s
@@ -89,9 +84,9 @@ OneForCall s p = (k : Call) (a b : Answer) (t u : State) → Answered s p k a t 
 
 -- what the answer of a step tells: why it was refused, the trade and its route, or that the round is done
 abbrev pub tells : StepAnswer → Result (Option Logged) SessionFault
-tells (step.Refused f) = Err f
-tells (step.Traded x places) = Ok (Some (logged x places))
-tells step.Done = Ok None
+tells (Err f) = Err f
+tells (Ok (Some x)) = Ok (Some (logged x.trade x.route))
+tells (Ok None) = Ok None
 
 -- the same of two steps over as many places; what a trade leaves in the places past its route is no part of the answer
 abbrev pub OneForStep : State → ℕ → Type 0

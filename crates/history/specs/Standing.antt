@@ -1,5 +1,5 @@
 -- What can be read off the events alone: the orders that stand, what was sold, bought and granted, and the steps of a round.
-use Rattle.std.specs.Prelude.{◌≡◌, ℕ, ◌+◌, ◌-◌, ◌*◌, ◌/◌, min, Bool, true, false, cond, not, ◌&&◌, ◌||◌, ◌⊎◌, List, [], ◌∷◌, ◌++◌, map, ℤ, filter, ◌==◌, nat_lt}
+use Rattle.std.specs.Prelude.{◌≡◌, ℕ, ◌+◌, ◌-◌, ◌*◌, ◌/◌, min, Bool, true, false, cond, not, ◌&&◌, ◌||◌, ◌⊎◌, List, [], ◌∷◌, ◌++◌, map, ℤ, Some, None, Ok, Err, filter, is_ok, ◌==◌, nat_lt}
 use Rattle.book.specs.declared.rows.Kind.{Kind}
 use Rattle.book.specs.declared.rows.Kind.TheVariants.{Non, Ioc, Ice}
 use Rattle.book.specs.declared.rows.OrderTerms.{OrderTerms}
@@ -10,11 +10,9 @@ use Rattle.session.specs.declared.entries.Entry.{Entry}
 use Rattle.trades.specs.declared.trade.Trade.{Trade}
 use Rattle.events.specs.declared.calls.Call.{Call}
 use Rattle.events.specs.declared.calls.Call.TheVariants.{Enter, Change, Withdraw, Request, Notice, Close}
-use Rattle.events.specs.declared.events.StepAnswer.{StepAnswer}
-use Rattle.events.specs.declared.events.StepAnswer.TheVariants as step
 use Rattle.events.specs.declared.events.Event.{Event}
 use Rattle.events.specs.declared.events.Event.TheVariants.{Called, Stepped}
-use Rattle.events.specs.Events.{is_accepted, round_follows}
+use Rattle.events.specs.Events.{StepAnswer, round_follows}
 
 abbrev pub ◌∈◌ : {X : Type 0} → X → List X → Type 0
 x ∈ [] = ⊥
@@ -63,29 +61,29 @@ with_trade t x = cond (has_number t.buy x || has_number t.sell x) (record { give
 
 abbrev pub after_call : Call → List Standing → List Standing
 after_call (Enter e) l = l ++ newly e ∷ []
-after_call (Change n m lim q) l = map (anew n lim q) l
+after_call (Change c) l = map (anew c.number c.limit c.quantity) l
 after_call (Withdraw n m) l = filter (λ x. not (has_number n x)) l
-after_call (Request c a b q) l = l
-after_call (Notice c a b f) l = l
+after_call (Request d q) l = l
+after_call (Notice d f) l = l
 after_call (Close c) l = filter (λ x. not (x.given.contract == c)) l
 
 -- what is used up leaves at a trade, an IOC at done
 abbrev pub after_step : StepAnswer → List Standing → List Standing
-after_step (step.Refused f) l = l
-after_step (step.Traded t places) l = filter (λ x. nat_lt 0 (still_open x)) (map (with_trade t) l)
-after_step step.Done l = filter (λ x. not (is_ioc x.given.terms.kind)) l
+after_step (Err f) l = l
+after_step (Ok (Some t)) l = filter (λ x. nat_lt 0 (still_open x)) (map (with_trade t.trade) l)
+after_step (Ok None) l = filter (λ x. not (is_ioc x.given.terms.kind)) l
 
 -- the orders open after these events
 abbrev pub standing : List Event → List Standing
 standing [] = []
-standing (Called p k a ∷ h) = cond (is_accepted a) (after_call k (standing h)) (standing h)
+standing (Called p k a ∷ h) = cond (is_ok a) (after_call k (standing h)) (standing h)
 standing (Stepped p z a ∷ h) = after_step a (standing h)
 
 -- a figure of each trade, summed
 abbrev pub of_step : (Trade → ℕ) → StepAnswer → ℕ
-of_step f (step.Refused e) = 0
-of_step f (step.Traded t places) = f t
-of_step f step.Done = 0
+of_step f (Err e) = 0
+of_step f (Ok (Some t)) = f t.trade
+of_step f (Ok None) = 0
 
 abbrev pub over_trades : (Trade → ℕ) → List Event → ℕ
 over_trades f [] = 0
@@ -95,15 +93,15 @@ over_trades f (Stepped p z a ∷ h) = of_step f a + over_trades f h
 -- a figure of each accepted request, by contract, from, to and quantity, summed
 abbrev pub of_call : (ℕ → ℕ → ℕ → ℕ → ℕ) → Call → ℕ
 of_call f (Enter e) = 0
-of_call f (Change n m lim q) = 0
+of_call f (Change c) = 0
 of_call f (Withdraw n m) = 0
-of_call f (Request c a b q) = f c a b q
-of_call f (Notice c a b g) = 0
+of_call f (Request d q) = f d.contract d.from d.to q
+of_call f (Notice d g) = 0
 of_call f (Close c) = 0
 
 abbrev pub over_grants : (ℕ → ℕ → ℕ → ℕ → ℕ) → List Event → ℕ
 over_grants f [] = 0
-over_grants f (Called p k a ∷ h) = cond (is_accepted a) (of_call f k) 0 + over_grants f h
+over_grants f (Called p k a ∷ h) = cond (is_ok a) (of_call f k) 0 + over_grants f h
 over_grants f (Stepped p z a ∷ h) = over_grants f h
 
 -- in contract c: traded with a as the seller's area, and as the buyer's; granted from a, and to it
@@ -139,24 +137,19 @@ abbrev pub contract_of : ℕ → List Standing → ℕ
 contract_of n [] = 0
 contract_of n (x ∷ l) = cond (has_number n x) x.given.contract (contract_of n l)
 
-abbrev pub is_made : StepAnswer → Bool
-is_made (step.Refused f) = false
-is_made (step.Traded t places) = true
-is_made step.Done = true
-
 -- the accepted steps of the newest round
 abbrev pub steps : List Event → ℕ
 steps [] = 0
 steps (Called p k a ∷ h) = cond (round_follows k a) 0 (steps h)
-steps (Stepped p z a ∷ h) = cond (is_made a) (steps h + 1) (steps h)
+steps (Stepped p z a ∷ h) = cond (is_ok a) (steps h + 1) (steps h)
 
 -- what is open on the smaller side as a call begins a round, of the orders that stand then
 abbrev pub begins_with : Call → List Standing → ℕ
 begins_with (Enter e) l = smaller e.contract l
-begins_with (Change n m lim q) l = smaller (contract_of n l) l
+begins_with (Change c) l = smaller (contract_of c.number l) l
 begins_with (Withdraw n m) l = 0
-begins_with (Request c a b q) l = smaller c l
-begins_with (Notice c a b f) l = smaller c l
+begins_with (Request d q) l = smaller d.contract l
+begins_with (Notice d f) l = smaller d.contract l
 begins_with (Close c) l = 0
 
 -- what was open on the smaller side as the newest round began

@@ -1,19 +1,23 @@
 -- Calls are equal where their numbers are.
-use Rattle.std.proofs.Common.{◌≡◌, ℕ, ℤ, refl}
+use Rattle.std.proofs.Common.{◌≡◌, ℕ, List, ℤ, Option, refl, subst}
 use Rattle.book.specs.declared.rows.Kind.{Kind}
 use Rattle.book.specs.declared.rows.Side.{Side}
-use Rattle.events.specs.declared.calls.Call.{Call}
-use Rattle.events.specs.declared.calls.Call.TheVariants.{Enter, Change, Request}
+use Rattle.events.specs.declared.calls.Call.TheVariants.{Enter, Change}
+use Rattle.reading.specs.Making.{sizes, at, count}
+use Rattle.lines.specs.Asking.{change, entry, Stands}
 
-pub request_is : (c a b q c' a' b' q' : ℕ) → c ≡ c' → a ≡ a' → b ≡ b' → q ≡ q' → Request c a b q ≡ Request c' a' b' q'
-request_is c a b q c' a' b' q' e f g h = rw (e, f, g, h) refl
+pub change_is : (zs : List ℤ) (ns : List ℕ) (l : ℤ) → ns ≡ sizes zs → l ≡ at zs 2 → Change (record { number = count ns 0; member = count ns 1; limit = l; quantity = count ns 3 }) ≡ change zs
+change_is zs ns l e f = rw (e, f) refl
 
-pub change_is : (n m q n' m' q' : ℕ) (l l' : ℤ) → n ≡ n' → m ≡ m' → l ≡ l' → q ≡ q' → Change n m l q ≡ Change n' m' l' q'
-change_is n m q n' m' q' l l' e f g h = rw (e, f, g, h) refl
+pub entry_is : (d : Side) (k : Kind) (zs : List ℤ) (ns : List ℕ) (l : ℤ) → ns ≡ sizes zs → l ≡ at zs 6 → Enter (record {
+  number = count ns 0;
+  member = count ns 1;
+  contract = count ns 2;
+  area = count ns 4;
+  terms = record { kind = k; side = d; limit = l; quantity = count ns 7; peak = count ns 8; delta = count ns 9 };
+}) ≡ entry d k zs
+entry_is d k zs ns l e f = rw (e, f) refl
 
--- an entry of these numbers
-abbrev pub entry_of : Side → Kind → ℕ → ℕ → ℕ → ℕ → ℤ → ℕ → ℕ → ℕ → Call
-entry_of d k n m c a l q p s = Enter (record { number = n; member = m; contract = c; area = a; terms = record { kind = k; side = d; limit = l; quantity = q; peak = p; delta = s } })
-
-pub entry_is : (d : Side) (k : Kind) (n m c a q p s n' m' c' a' q' p' s' : ℕ) (l l' : ℤ) → n ≡ n' → m ≡ m' → c ≡ c' → a ≡ a' → l ≡ l' → q ≡ q' → p ≡ p' → s ≡ s' → entry_of d k n m c a l q p s ≡ entry_of d k n' m' c' a' l' q' p' s'
-entry_is d k n m c a q p s n' m' c' a' q' p' s' l l' e f g h i j u v = rw (e, f, g, h, i, j, u, v) refl
+-- what a word stands for, where it is the word at a place
+pub stood : {X : Type 0} (spelt : X → List ℕ) (v w : List ℕ) (o p : Option X) → v ≡ w → o ≡ p → Stands spelt v o → Stands spelt w p
+stood {X} spelt v w o p e f h = subst (λ (x : List ℕ). Stands spelt x p) e (subst (λ (q : Option X). Stands spelt v q) f h)

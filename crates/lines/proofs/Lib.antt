@@ -1,6 +1,3 @@
--- Laws of texts cut into lines and words, and of number words read one after another; `one-asking` in Once.
-mod Cuts
-mod Numbering
-mod Words
+-- Laws of what a line asks for; `one_asking` in Once.
 mod Asked
 pub mod Once

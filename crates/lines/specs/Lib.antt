@@ -1,6 +1,3 @@
 -- The definitions that the contracts cite.
-pub mod Text
-pub mod Reading
 pub mod Faults
-pub mod Fields
 pub mod Asking

@@ -1,21 +1,17 @@
 // What a line asks for, as a call on a session.
-ghost use Rattle.lines.specs.Reading.{ahead};
-ghost use Rattle.lines.specs.Fields.{InLine};
-ghost use Rattle.lines.specs.Asking.{Makes, notice_fields, notice, request_fields, request, change_fields, change, withdrawal_fields, withdrawal, closing_fields, closing, EntryLine, Asks};
+ghost use Rattle.reading.specs.Reading.{ahead};
+ghost use Rattle.reading.specs.Fields.{InLine};
+ghost use Rattle.reading.specs.Making.{Makes, MakesOfCounts, notice_fields, request_fields};
+ghost use Rattle.lines.specs.Asking.{notice, request, change_fields, change, withdrawal_fields, withdrawal, closing_fields, closing, EntryLine, Asks};
 
 use crate::entries::{kind_of, side_of};
-use crate::faults::LineFault;
-use crate::fields::{Field, count_at, number_at};
-use crate::reader::Reader;
 use book::rows::OrderTerms;
-use capacity::figures::Figures;
 use events::calls::Call;
 use numbers::Unit;
-use session::entries::Entry;
-
-const COUNT: Field = Field::Count(Unit::Count);
-
-const POWER: Field = Field::Count(Unit::Megawatt);
+use reading::faults::WordFault;
+use reading::fields::{COUNT, Field, POWER, sizes};
+use reading::reader::Reader;
+use session::entries::{Change, Entry};
 
 const LIMIT: Field = Field::Signed(Unit::Euro);
 
@@ -24,130 +20,118 @@ const SIDE: u32 = 3;
 
 const KIND: u32 = 5;
 
-impl<'a> Reader<'a> {
-    fn notice(&mut self) -> Result<Call, LineFault>
-        ensures call { Makes self.old.words notice_fields notice (ahead self.old) result }
-        ensures stays { InLine self.old self.new }
-    {
-        let numbers = self.numbers([COUNT, COUNT, COUNT, POWER, POWER, POWER, POWER])?;
-        let figures = Figures {
-            ntc: count_at(&numbers, 3),
-            ntc_back: count_at(&numbers, 4),
-            aac: count_at(&numbers, 5),
-            aac_back: count_at(&numbers, 6),
-        };
-        Ok(Call::Notice {
-            contract: count_at(&numbers, 0),
-            from: count_at(&numbers, 1),
-            to: count_at(&numbers, 2),
-            figures,
-        })
-    }
+// Copied over from here on: calls stand apart from scripts, and scripts of capacity have no calls.
+fn notice(reader: &mut Reader) -> Result<Call, WordFault>
+    ensures call { MakesOfCounts reader.old.words notice_fields notice (ahead reader.old) result }
+    ensures stays { InLine reader.old reader.new }
+{
+    let notice = reader.notice()?;
+    Ok(Call::Notice {
+        direction: notice.direction,
+        figures: notice.figures,
+    })
+}
 
-    fn request(&mut self) -> Result<Call, LineFault>
-        ensures call { Makes self.old.words request_fields request (ahead self.old) result }
-        ensures stays { InLine self.old self.new }
-    {
-        let numbers = self.numbers([COUNT, COUNT, COUNT, POWER])?;
-        Ok(Call::Request {
-            contract: count_at(&numbers, 0),
-            from: count_at(&numbers, 1),
-            to: count_at(&numbers, 2),
-            quantity: count_at(&numbers, 3),
-        })
-    }
+fn request(reader: &mut Reader) -> Result<Call, WordFault>
+    ensures call { MakesOfCounts reader.old.words request_fields request (ahead reader.old) result }
+    ensures stays { InLine reader.old reader.new }
+{
+    let request = reader.request()?;
+    Ok(Call::Request {
+        direction: request.direction,
+        quantity: request.quantity,
+    })
+}
 
-    fn change(&mut self) -> Result<Call, LineFault>
-        ensures call { Makes self.old.words change_fields change (ahead self.old) result }
-        ensures stays { InLine self.old self.new }
-    {
-        let numbers = self.numbers([COUNT, COUNT, LIMIT, POWER])?;
-        Ok(Call::Change {
-            number: count_at(&numbers, 0),
-            member: count_at(&numbers, 1),
-            limit: number_at(&numbers, 2),
-            quantity: count_at(&numbers, 3),
-        })
-    }
+fn change(reader: &mut Reader) -> Result<Call, WordFault>
+    ensures call { Makes reader.old.words change_fields change (ahead reader.old) result }
+    ensures stays { InLine reader.old reader.new }
+{
+    let numbers = reader.numbers([COUNT, COUNT, LIMIT, POWER])?;
+    let counts = sizes(numbers);
+    let [number, member, _, quantity] = counts;
+    let [_, _, limit, _] = numbers;
+    Ok(Call::Change(Change {
+        number,
+        member,
+        limit,
+        quantity,
+    }))
+}
 
-    fn withdrawal(&mut self) -> Result<Call, LineFault>
-        ensures call { Makes self.old.words withdrawal_fields withdrawal (ahead self.old) result }
-        ensures stays { InLine self.old self.new }
-    {
-        let numbers = self.numbers([COUNT, COUNT])?;
-        Ok(Call::Withdraw {
-            number: count_at(&numbers, 0),
-            member: count_at(&numbers, 1),
-        })
-    }
+fn withdrawal(reader: &mut Reader) -> Result<Call, WordFault>
+    ensures call { MakesOfCounts reader.old.words withdrawal_fields withdrawal (ahead reader.old) result }
+    ensures stays { InLine reader.old reader.new }
+{
+    let counts = reader.counts([COUNT, COUNT])?;
+    let [number, member] = counts;
+    Ok(Call::Withdraw { number, member })
+}
 
-    fn closing(&mut self) -> Result<Call, LineFault>
-        ensures call { Makes self.old.words closing_fields closing (ahead self.old) result }
-        ensures stays { InLine self.old self.new }
-    {
-        let numbers = self.numbers([COUNT])?;
-        Ok(Call::Close {
-            contract: count_at(&numbers, 0),
-        })
-    }
+fn closing(reader: &mut Reader) -> Result<Call, WordFault>
+    ensures call { MakesOfCounts reader.old.words closing_fields closing (ahead reader.old) result }
+    ensures stays { InLine reader.old reader.new }
+{
+    let counts = reader.counts([COUNT])?;
+    let [contract] = counts;
+    Ok(Call::Close { contract })
+}
 
-    fn entry(&mut self) -> Result<Call, LineFault>
-        ensures call { EntryLine self.old.words (ahead self.old) result }
-        ensures stays { InLine self.old self.new }
-    {
-        let side = side_of(self.word_ahead(SIDE));
-        let kind = kind_of(self.word_ahead(KIND));
-        let Some(side) = side else {
-            return Err(LineFault::Form);
-        };
-        let Some(kind) = kind else {
-            return Err(LineFault::Form);
-        };
-        let numbers = self.numbers([
-            COUNT,
-            COUNT,
-            COUNT,
-            Field::Letters,
-            COUNT,
-            Field::Letters,
-            LIMIT,
-            POWER,
-            POWER,
-            Field::Count(Unit::Euro),
-        ])?;
-        let terms = OrderTerms {
-            kind,
-            side,
-            limit: number_at(&numbers, 6),
-            quantity: count_at(&numbers, 7),
-            peak: count_at(&numbers, 8),
-            delta: count_at(&numbers, 9),
-        };
-        Ok(Call::Enter(Entry {
-            number: count_at(&numbers, 0),
-            member: count_at(&numbers, 1),
-            contract: count_at(&numbers, 2),
-            area: count_at(&numbers, 4),
-            terms,
-        }))
-    }
+fn entry(reader: &mut Reader) -> Result<Call, WordFault>
+    ensures call { EntryLine reader.old.words (ahead reader.old) result }
+    ensures stays { InLine reader.old reader.new }
+{
+    let side = side_of(reader.word_ahead(SIDE));
+    let kind = kind_of(reader.word_ahead(KIND));
+    let side = side.ok_or(WordFault::Form)?;
+    let kind = kind.ok_or(WordFault::Form)?;
+    let numbers = reader.numbers([
+        COUNT,
+        COUNT,
+        COUNT,
+        Field::Letters,
+        COUNT,
+        Field::Letters,
+        LIMIT,
+        POWER,
+        POWER,
+        Field::Count(Unit::Euro),
+    ])?;
+    let counts = sizes(numbers);
+    let [number, member, contract, _, area, ..] = counts;
+    let [.., quantity, peak, delta] = counts;
+    let [.., limit, _, _, _] = numbers;
+    let terms = OrderTerms {
+        kind,
+        side,
+        limit,
+        quantity,
+        peak,
+        delta,
+    };
+    Ok(Call::Enter(Entry {
+        number,
+        member,
+        contract,
+        area,
+        terms,
+    }))
+}
 
-    // What the words that are left of the line ask for, its letter first.
-    pub fn call(&mut self) -> Result<Call, LineFault>
-        ensures call { Asks self.old.words (ahead self.old) result }
-        ensures stays { InLine self.old self.new }
-    {
-        let Some(letter) = self.letter() else {
-            return Err(LineFault::Form);
-        };
-        match letter {
-            'C' => self.change(),
-            'E' => self.entry(),
-            'K' => self.closing(),
-            'N' => self.notice(),
-            'W' => self.withdrawal(),
-            'X' => self.request(),
-            _ => Err(LineFault::Form),
-        }
+// What the words that are left of the line ask for, its letter first.
+pub fn call(reader: &mut Reader) -> Result<Call, WordFault>
+    ensures call { Asks reader.old.words (ahead reader.old) result }
+    ensures stays { InLine reader.old reader.new }
+{
+    let letter = reader.letter().ok_or(WordFault::Form)?;
+    // the letters are the cases of a match: a rule of the project
+    match letter {
+        'C' => change(reader),
+        'E' => entry(reader),
+        'K' => closing(reader),
+        'N' => notice(reader),
+        'W' => withdrawal(reader),
+        'X' => request(reader),
+        _ => Err(WordFault::Form),
     }
 }

@@ -2,6 +2,7 @@
 pub mod Unique
 pub mod Carried
 pub mod Members
+mod Made
 mod Tables
-mod Deciding
 mod Ranked
+mod Choosing

@@ -1,10 +1,8 @@
 -- What a table of sizes says: for the contracts of the private functions that make and read it.
-use Rattle.std.specs.Prelude.{ℕ, ◌<◌, List, slice_index_or}
+use Rattle.std.specs.Prelude.{ℕ, ◌<◌, List, IsSomeAnd, slice_get, slice_index_or}
 use Rattle.routes.specs.declared.sizes.Sizes.{Sizes}
-use Rattle.routes.specs.Grids.{Leads}
 use Rattle.routes.specs.Listed.{size_of}
 use Rattle.routes.specs.Paths.{Relation, Path}
-use Rattle.matching.specs.declared.ways.Ways.{Ways}
 
 -- a path leads from p to q
 abbrev pub Way : Relation → Relation
@@ -18,6 +16,6 @@ Tells Open q s = (a : ℕ) → (0 < size_of s a → Way Open a q) × (Way Open a
 abbrev pub Told : Relation → List Sizes → ℕ → Type 0
 Told Open t k = (q : ℕ) (d : Sizes) → q < k → Tells Open q (slice_index_or t q d)
 
--- the table is that of the grid
-abbrev pub Sound : Ways → Type 0
-Sound w = Told (Leads w.grid) w.to 16
+-- by the table a path leads from p to q
+abbrev pub Leading : List Sizes → Relation
+Leading t p q = IsSomeAnd (slice_get t q) (λ s. 0 < size_of s p)

@@ -3,17 +3,16 @@ ghost use Rattle.std.specs.Prelude.{◌≡◌, ℕ, length, MatchOption};
 ghost use Rattle.book.specs.Places.{orders};
 ghost use Rattle.routes.specs.Grids.{Leads};
 ghost use Rattle.matching.specs.Pairs.{InRound, Chosen};
-ghost use Rattle.matching.specs.Bests.{Best, Higher, Paired};
-ghost use Rattle.matching.specs.Ways.{Sound};
+ghost use Rattle.matching.specs.Bests.{Best, Higher, OneSide, Paired, Pairs, Passes};
 
-use crate::pairs::pairs;
+use crate::pairs::Pairing;
 use crate::round::Round;
 use crate::ways::Ways;
 use book::places::Book;
 use routes::Grid;
 
 // A buy and a sell, by their places in the book.
-#[derive(Clone, Copy)]
+#[derive(Clone, Copy, PartialEq, Eq)]
 pub struct Pair {
     pub buy: usize,
     pub sell: usize,
@@ -23,40 +22,43 @@ pub struct Pair {
 fn higher(book: &Book, best: Option<usize>, next: usize) -> usize
     ensures { Higher (orders book.now) best next result }
 {
-    let Some(at) = best else {
-        return next;
-    };
-    if book.better(next, at) { next } else { at }
+    match best {
+        Some(at) if !book.better(next, at) => at,
+        _ => next,
+    }
 }
 
-// The highest-ranked sell in a pair of the round with the buy at `i`.
-fn best_sell(book: &Book, ways: &Ways, round: Round, i: usize) -> Option<usize>
-    requires { Sound ways.now }
-    ensures { Best (InRound (Leads ways.now.grid) round (orders book.now) i) (orders book.now) (length (orders book.now)) result }
+// The highest-ranked of the places that pass a test, all of which hold one side.
+// A `for`: tried with `filter` and `reduce`, whose closures prove, and the proof of what they find did not close.
+fn best<F: Fn(usize) -> bool>(book: &Book, test: F) -> Option<usize>
+    requires callable { F.IsAlwaysCallable test }
+    requires one_side { OneSide (F.post test) (orders book.now) }
+    ensures { Passes (F.post test) (orders book.now) (length (orders book.now)) result }
 {
     let n = book.len();
     let mut best = None;
-    for j in 0..n {
-        if pairs(book, ways, round, i, j) {
-            best = Some(higher(book, best, j));
+    for at in 0..n {
+        if test(at) {
+            best = Some(higher(book, best, at));
         }
     }
     best
 }
 
-// The highest-ranked buy in any pair of the round.
-fn best_buy(book: &Book, ways: &Ways, round: Round) -> Option<usize>
-    requires { Sound ways.now }
-    ensures { Best (Paired (Leads ways.now.grid) round (orders book.now)) (orders book.now) (length (orders book.now)) result }
-{
-    let n = book.len();
-    let mut best = None;
-    for i in 0..n {
-        if best_sell(book, ways, round, i).is_some() {
-            best = Some(higher(book, best, i));
-        }
+impl Pairing<'_> {
+    // The highest-ranked sell in a pair of the round with the buy at `i`.
+    fn best_sell(&self, i: usize) -> Option<usize>
+        ensures { Best (Pairs self.now i) (orders self.now.book.now) result }
+    {
+        best(self.book, |j| self.pairs(i, j))
     }
-    best
+
+    // The highest-ranked buy in any pair of the round.
+    fn best_buy(&self) -> Option<usize>
+        ensures { Best (Paired self.now) (orders self.now.book.now) result }
+    {
+        best(self.book, |i| self.best_sell(i).is_some())
+    }
 }
 
 // The pair that the round trades: the highest-ranked buy in any pair of it, and the highest-ranked sell with that buy.
@@ -65,12 +67,12 @@ pub fn choose(book: &Book, grid: &Grid, round: Round) -> Option<Pair>
     ensures chosen { MatchOption result ((i j : ℕ) → InRound (Leads grid.now) round (orders book.now) i j → ⊥) (λ p. Chosen (Leads grid.now) round (orders book.now) p.buy p.sell) }
     ensures only { (i j : ℕ) → Chosen (Leads grid.now) round (orders book.now) i j → MatchOption result ⊥ (λ p. (p.buy ≡ i) × (p.sell ≡ j)) }
 {
-    let ways = Ways::of(grid);
-    let Some(buy) = best_buy(book, &ways, round) else {
-        return None;
+    let pairing = Pairing {
+        book,
+        ways: Ways::of(grid),
+        round,
     };
-    let Some(sell) = best_sell(book, &ways, round, buy) else {
-        return None;
-    };
+    let buy = pairing.best_buy()?;
+    let sell = pairing.best_sell(buy)?;
     Some(Pair { buy, sell })
 }

@@ -1,59 +1,62 @@
 // Whether two orders may trade with each other in a round.
 ghost use Rattle.std.specs.Prelude.{Decides};
-ghost use Rattle.book.specs.Places.{orders};
-ghost use Rattle.routes.specs.Grids.{Leads};
-ghost use Rattle.matching.specs.Pairs.{InRound};
 ghost use Rattle.matching.specs.Orders.{Meeting, Concerns, Trading};
-ghost use Rattle.matching.specs.Ways.{Sound};
+ghost use Rattle.matching.specs.Bests.{Pairs};
+ghost use Rattle.matching.specs.Ways.{Leading};
 
 use crate::round::Round;
 use crate::ways::Ways;
 use book::places::Book;
 use book::rows::{Order, Side};
 
+// A round over a book, with the ways between the areas.
+#[derive(Clone, Copy)]
+pub(crate) struct Pairing<'b> {
+    pub(crate) book: &'b Book,
+    pub(crate) ways: Ways,
+    pub(crate) round: Round,
+}
+
 // Whether they are a buy and a sell of one contract whose limits meet.
+// Two references: a struct of a buy and a sell would be made for one test of a pair and no more.
 fn meeting(buy: &Order, sell: &Order) -> bool
     ensures { Decides result (Meeting buy.now sell.now) }
 {
-    match buy.side {
-        Side::Buy => match sell.side {
-            Side::Sell => buy.contract == sell.contract && sell.limit <= buy.limit,
-            Side::Buy => false,
-        },
-        Side::Sell => false,
-    }
+    buy.side == Side::Buy
+        && sell.side == Side::Sell
+        && buy.contract == sell.contract
+        && sell.limit <= buy.limit
 }
 
-// Whether the round may trade two orders of one contract.
-fn concerns(round: Round, buy: &Order, sell: &Order) -> bool
-    ensures { Decides result (Concerns round buy.now sell.now) }
-{
-    match round {
-        Round::Regular { contract, incoming } => {
-            buy.contract == contract && (buy.number == incoming || sell.number == incoming)
+impl Round {
+    // Whether the round may trade two orders of one contract.
+    fn concerns(self, buy: &Order, sell: &Order) -> bool
+        ensures { Decides result (Concerns self buy.now sell.now) }
+    {
+        match self {
+            Round::Regular { contract, incoming } => {
+                buy.contract == contract && (buy.number == incoming || sell.number == incoming)
+            }
+            Round::Batch { contract } => buy.contract == contract,
         }
-        Round::Batch { contract } => buy.contract == contract,
     }
 }
 
-// Whether two orders may trade with each other in the round.
-fn trading(ways: &Ways, round: Round, buy: &Order, sell: &Order) -> bool
-    requires { Sound ways.now }
-    ensures { Decides result (Trading (Leads ways.now.grid) round buy.now sell.now) }
-{
-    meeting(buy, sell) && concerns(round, buy, sell) && ways.leads(sell.area, buy.area)
-}
+impl Pairing<'_> {
+    // Whether two orders may trade with each other in the round.
+    fn trading(&self, buy: &Order, sell: &Order) -> bool
+        ensures { Decides result (Trading (Leading self.now.ways.to) self.now.round buy.now sell.now) }
+    {
+        meeting(buy, sell) && self.round.concerns(buy, sell) && self.ways.leads(sell.area, buy.area)
+    }
 
-// Whether the places `i` and `j` are a pair of the round.
-pub(crate) fn pairs(book: &Book, ways: &Ways, round: Round, i: usize, j: usize) -> bool
-    requires { Sound ways.now }
-    ensures { Decides result (InRound (Leads ways.now.grid) round (orders book.now) i j) }
-{
-    let Some(buy) = book.order(i) else {
-        return false;
-    };
-    let Some(sell) = book.order(j) else {
-        return false;
-    };
-    trading(ways, round, &buy, &sell)
+    // Whether the places `i` and `j` are a pair of the round.
+    pub(crate) fn pairs(&self, i: usize, j: usize) -> bool
+        ensures { Decides result (Pairs self.now i j) }
+    {
+        match (self.book.order(i), self.book.order(j)) {
+            (Some(buy), Some(sell)) => self.trading(&buy, &sell),
+            _ => false,
+        }
+    }
 }

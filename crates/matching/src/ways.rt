@@ -1,38 +1,35 @@
 // Which areas lead to which.
-ghost use Rattle.std.specs.Prelude.{◌≡◌, Decides};
+ghost use Rattle.std.specs.Prelude.{Decides};
 ghost use Rattle.routes.specs.Grids.{Leads};
-ghost use Rattle.matching.specs.Ways.{Way, Sound};
+ghost use Rattle.matching.specs.Ways.{Leading, Told};
 
 use routes::{Grid, Sizes};
+use std::array;
 
-// The areas are 0 to 15.
-const AREAS: u32 = 16;
-
-// A grid, with the sizes of the routes to each area.
+// The sizes of the routes to each area, 0 to 15. That they are a grid's is a fact of one contract and no ghost field,
+// whose fact may have one proof only: this one names a path for each size.
 #[derive(Clone, Copy)]
 pub(crate) struct Ways {
-    pub(crate) grid: Grid,
     pub(crate) to: [Sizes; 16],
 }
 
 impl Ways {
     // The ways of a grid, with sizes asked for each area: sixteen times in all.
     pub(crate) fn of(grid: &Grid) -> Ways
-        ensures grid { result.grid ≡ grid.now }
-        ensures sound { Sound result }
+        ensures { Told (Leads grid.now) result.to 16 }
     {
-        let mut to = [grid.sizes_to(0); 16];
-        for area in 1..AREAS {
-            to[area as usize] = grid.sizes_to(area);
+        Ways {
+            // `as`: an index below 16
+            to: array::from_fn(|area| grid.sizes_to(area as u32)),
         }
-        Ways { grid: *grid, to }
     }
 
     // Whether a path leads from one area to another.
     pub(crate) fn leads(&self, from: u32, to: u32) -> bool
-        requires { Sound self.now }
-        ensures { Decides result (Way (Leads self.now.grid) from to) }
+        ensures { Decides result (Leading self.now.to from to) }
     {
-        to < AREAS && 0 < self.to[to as usize].of(from)
+        self.to
+            .get(to as usize)
+            .is_some_and(|sizes| 0 < sizes.of(from))
     }
 }

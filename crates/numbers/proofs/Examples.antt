@@ -8,11 +8,11 @@ use Rattle.numbers.specs.Numerals.{Digit, SomeDigits, number_on, Numeral, Writes
 use Rattle.numbers.specs.Numerals.Letter.{small, capital}
 use Rattle.numbers.specs.Numerals.Mark.{none, minus}
 use Rattle.numbers.specs.Numerals.Power.{bare, power}
-use Rattle.numbers.specs.Scans.{Splits, LonePoint, SignedBy}
+use Rattle.numbers.specs.Scans.{Splits, LonePoint}
 use Rattle.numbers.specs.Reading.{InRange, Answers}
 use Rattle.numbers.specs.Examples.{Examples}
 use Rattle.numbers.proofs.Bodies.{no_decimals}
-use Rattle.numbers.proofs.Once.{means_at}
+use Rattle.numbers.proofs.Once.{means_at, unread}
 
 nought : Digit 48
 nought = (lit≤ tt, lit≤ tt)
@@ -79,8 +79,7 @@ unfinished : Answers (codes "1.") Euro true (Err Form)
 unfinished p =
     let s : Splits (codes "1.") (codes "1") (codes ".") = record { joined = refl; digits = (one, tt); stops = λ d. omega (arith, d.0) } in
     let l : LonePoint (codes ".") = record { rest = []; joined = refl; stops = λ d. omega arith } in
-    let g : SignedBy (codes "1.") false (codes "1.") = record { joined = refl; signless = λ z e. omega arith } in
-    no_decimals _ _ _ _ false g s l p.0 p.1.1 p.1.2
+    unread false (codes "1.") Euro (lit≤ tt) (λ e. λ z. omega arith) Form (no_decimals _ _ _ s l) p
 
 minus_nought : (sign : Bool) → InRange sign (pos 0) → Answers (codes "-0") Euro sign (Ok (pos 0))
 minus_nought sign r = (

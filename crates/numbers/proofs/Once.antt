@@ -1,16 +1,15 @@
 -- A word has one answer, and what a scan found gives it.
-use Rattle.std.proofs.Common.{◌≡◌, ℕ, ◌+◌, ◌^◌, ◌<◌, ◌≤◌, Bool, true, false, List, length, ℤ, pos, neg_ℤ, Ok, Err, Result, sym, refl, ap, ◌∙◌, subst, arith, lit<}
+use Rattle.std.proofs.Common.{◌≡◌, ℕ, ◌+◌, ◌^◌, ◌≤◌, Bool, true, false, List, ◌++◌, length, ℤ, pos, neg_ℤ, Ok, Err, Result, sym, refl, ap, ◌∙◌, subst, arith, MatchResult}
 use native.Mathlib.Nat.{eq_of_mul-eq-mul_right}
-use Rattle.std.proofs.lemmas.Int.{ints}
 use Rattle.numbers.specs.declared.Unit.{Unit as Measure}
-use Rattle.numbers.specs.declared.Unit.TheVariants.{Count, Megawatt, Euro}
 use Rattle.numbers.specs.declared.NumberFault.{NumberFault}
 use Rattle.numbers.specs.declared.NumberFault.TheVariants.{Form, Fraction, Range}
-use Rattle.numbers.specs.Numerals.{Letter, letter_byte, Power, Numeral, power_text, body_text, text, ProperPower, Proper, Writes, Counts, fall, places, signed_as}
+use Rattle.numbers.specs.Numerals.{Letter, letter_byte, Power, Numeral, minus_text, power_text, body_text, text, ProperPower, Proper, Writes, Counts, fall, places, signed_as}
 use Rattle.numbers.specs.Numerals.Letter.{small, capital}
 use Rattle.numbers.specs.Numerals.Power.{bare, power}
-use Rattle.numbers.specs.Scans.{NumeralIs, Scaled, Unscaled, Unread, Fitted}
-use Rattle.numbers.specs.Reading.{scale_of, Means, InRange, Answers, as_signed, OnlySigned, OnlyUnsigned}
+use Rattle.numbers.specs.Scans.{Lacks, SizeIs, NoBody, NoSize, Unread}
+use Rattle.numbers.specs.Reading.{scale_of, WellFormed, Means, InRange, Answers}
+use Rattle.numbers.specs.Figures.{FigureLaws}
 use Rattle.numbers.proofs.Laws.{heads, tails, ten_pos}
 use Rattle.numbers.proofs.Scanned.{digits_lack, sign_at, mark_at}
 use Rattle.numbers.proofs.Bodies.{one_split, tail_at, no_digit_point, no_digit_power, no_point_power, body_lacks}
@@ -70,60 +69,43 @@ one_answer bs unit sign (Err Range) (Err Form) p q = absurd (q (p.1.0.numeral, p
 one_answer bs unit sign (Err Range) (Err Fraction) p q = absurd (q.1 p.0 p.1.0)
 one_answer bs unit sign (Err Range) (Err Range) p q = refl
 
-pub only_signed : (bs : List ℕ) (unit : Measure) (r : Result ℤ NumberFault) → Answers bs unit true r → OnlySigned bs unit r
-only_signed bs unit r h q a = one_answer bs unit true q r a h
+pub only : {F : Type 0} {value : F → ℤ} {answer : Result F NumberFault → Result ℤ NumberFault} → FigureLaws value answer → (bs : List ℕ) (unit : Measure) (sign : Bool) (r : Result F NumberFault) → Answers bs unit sign (answer r) → (q : Result F NumberFault) → Answers bs unit sign (answer q) → q ≡ r
+only laws bs unit sign r h q a = laws.once q r (one_answer bs unit sign _ _ a h)
 
-same_unsigned : (q r : Result ℕ NumberFault) → as_signed q ≡ as_signed r → q ≡ r
-same_unsigned (Ok m) (Ok n) e = cc
-same_unsigned (Ok m) (Err f) e = absurd (let z : ◌≡◌ {A = ℕ} 0 1 = cc in omega arith)
-same_unsigned (Err f) (Ok n) e = absurd (let z : ◌≡◌ {A = ℕ} 0 1 = cc in omega arith)
-same_unsigned (Err f) (Err g) e = cc
+abbrev pub signed : Bool → ℤ → ℤ
+signed true z = neg_ℤ z
+signed false z = z
 
-pub only_unsigned : (bs : List ℕ) (unit : Measure) (r : Result ℕ NumberFault) → Answers bs unit false (as_signed r) → OnlyUnsigned bs unit r
-only_unsigned bs unit r h q a = same_unsigned q r (one_answer bs unit false (as_signed q) (as_signed r) a h)
+signed_is : (b : Bool) (n : ℕ) → signed b (pos n) ≡ signed_as b n
+signed_is true n = refl
+signed_is false n = refl
 
--- from a scanned number to what its word means
-pub scale_small : (unit : Measure) → scale_of unit < 2 ^ 60
-scale_small Count = lit< tt
-scale_small Megawatt = lit< tt
-scale_small Euro = lit< tt
+-- from a word without its sign to the word
+module _ (b : Bool) (body : List ℕ) (unit : Measure) (short : length (minus_text b ++ body) ≤ 16) where
+  abbrev with_sign : Numeral → Numeral
+  with_sign w = record { negative = b; whole = w.whole; decimals = w.decimals; tail = w.tail }
 
-module _ (bs : List ℕ) (unit : Measure) (b : Bool) (m u d : ℕ) (short : length bs ≤ 16) (h : NumeralIs bs b m u d) where
-  writes : Writes bs h.numeral
-  writes = (short, h.proper, h.joined)
+  writes : (w : Numeral) → Proper w → body_text w ≡ body → Writes (minus_text b ++ body) (with_sign w)
+  writes w p e = (short, p, ap (λ x. minus_text b ++ x) e)
 
-  pub means : (n : ℕ) → Scaled m u d (scale_of unit) n → Means bs unit (signed_as b n)
-  means n s = record {
-    numeral = h.numeral;
-    size = n;
-    writes = writes;
-    counts = let r = h.rises in let f = h.falls in let k = h.number in cc;
-    value = ap (λ x. signed_as x n) h.sign;
+  pub means : (n z : ℤ) → SizeIs body unit n → z ≡ signed b n → Means (minus_text b ++ body) unit z
+  means n z h v = record {
+    numeral = with_sign h.numeral;
+    size = h.size;
+    writes = writes h.numeral h.proper h.joined;
+    counts = h.counts;
+    value = v ∙ ap (signed b) h.value ∙ signed_is b h.size;
   }
 
-  unscaled : ((n : ℕ) → Scaled m u d (scale_of unit) n → ⊥) → (z : ℤ) → Means bs unit z → ⊥
-  unscaled f z k = f k.size (let e = means_at h.numeral writes k in let r = h.rises in let g = h.falls in let j = h.number in cc)
+  module _ (signless : b ≡ false → Lacks 45 body) where
+    no_word : NoBody body → WellFormed (minus_text b ++ body) → ⊥
+    no_word f h = f h.0 h.1.1 (sign_at h.0.negative b (body_text h.0) body (body_lacks h.0 h.1.1) signless h.1.2).1
 
-  pub unread : (e : NumberFault) → Unscaled m u d (scale_of unit) e → Unread bs unit e
-  unread Form x = absurd x
-  unread Fraction x = ((h.numeral, writes), unscaled x)
-  unread Range x = (b, x.0, (means x.0 x.1.0, x.1.1))
+    pub unread : (e : NumberFault) → NoSize body unit e → Unread (minus_text b ++ body) unit e
+    unread Form f = no_word f
+    unread Fraction f = ((with_sign f.0, writes f.0 f.1.0 f.1.1), λ z m. f.1.2 m.size (means_at (with_sign f.0) (writes f.0 f.1.0 f.1.1) m))
+    unread Range f = (b, f.0, (means (pos f.0) _ f.1.0 (sym (signed_is b f.0)), f.1.1))
 
--- from that to the answer
-pub answered : (bs : List ℕ) (unit : Measure) (sign : Bool) (y : ℤ) (r : Result ℤ NumberFault) → Means bs unit y → Fitted sign y r → Answers bs unit sign r
-answered bs unit sign y (Ok z) m h = (subst (Means bs unit) (sym h.0) m, h.1)
-answered bs unit sign y (Err e) m h = subst (λ x. Answers bs unit sign (Err x)) (sym h.0) (y, (m, h.1))
-
-pub fits_below : (b : Bool) (n : ℕ) (z : ℤ) → b ≡ true → n ≤ 2147483648 → z ≡ neg_ℤ (pos n) → (z ≡ signed_as b n) × InRange true z
-fits_below b n z e h q = (q ∙ ap (λ x. signed_as x n) (sym e), (omega (arith, ints), omega (arith, ints)))
-
-too_many : (sign b : Bool) (n : ℕ) → 2147483648 < n → InRange sign (signed_as b n) → ⊥
-too_many true true n h r = omega (arith, ints)
-too_many true false n h r = omega (arith, ints)
-too_many false true n h r = omega (arith, ints)
-too_many false false n h r = omega (arith, ints)
-
-pub refused : (bs : List ℕ) (unit : Measure) (sign : Bool) (e : NumberFault) → Unread bs unit e → Answers bs unit sign (Err e)
-refused bs unit sign Form h = h
-refused bs unit sign Fraction h = h
-refused bs unit sign Range h = (signed_as h.0 h.1, (h.2.0, too_many sign h.0 h.1 h.2.1))
+pub unsigned : (body : List ℕ) (unit : Measure) → length body ≤ 16 → Lacks 45 body → (r : Result ℤ NumberFault) → MatchResult r (SizeIs body unit) (NoSize body unit) → MatchResult r (Means body unit) (Unread body unit)
+unsigned body unit short h (Ok z) s = means false body unit short z z s refl
+unsigned body unit short h (Err e) s = unread false body unit short (λ _. h) e s

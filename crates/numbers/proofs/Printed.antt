@@ -1,19 +1,16 @@
 -- What is printed is read back.
-use Rattle.std.proofs.Common.{◌≡◌, ℕ, ◌+◌, ◌*◌, ◌/◌, ◌%◌, ◌^◌, ◌<◌, ◌≤◌, Bool, true, false, List, [], ◌∷◌, ◌++◌, length, ℤ, pos, negsuc, nat_abs, IfOk, Ok, decimal, Result, sym, refl, ap, ◌∙◌, subst, append-nil, arith, length-append, w32, SFits, rules}
+use Rattle.std.proofs.Common.{◌≡◌, ℕ, ◌+◌, ◌*◌, ◌/◌, ◌%◌, ◌^◌, ◌<◌, ◌≤◌, Bool, true, false, List, [], ◌∷◌, ◌++◌, length, ℤ, pos, negsuc, nat_abs, IfOk, Ok, decimal, Result, sym, refl, ap, ◌∙◌, subst, append-nil, arith, length-append}
 use Rattle.std.proofs.lemmas.Result.{IfOk-weaker}
 use Rattle.std.proofs.lemmas.Int.{ints}
-use Rattle.std.proofs.lemmas.Str.Parse.{IsNumeralModel, numerals_by_fold}
 use Rattle.std.proofs.lemmas.Fmt.{digits_decimal, digits_value-decimal, decimal_nonempty, decimal_digit, length-decimal-le}
 use Rattle.numbers.specs.declared.Unit.{Unit as Measure}
 use Rattle.numbers.specs.declared.Unit.TheVariants.{Count, Megawatt, Euro}
 use Rattle.numbers.specs.Numerals.{Digit, AllDigits, number_on, minus_text, point_text, signed_as}
 use Rattle.numbers.specs.Numerals.Power.{bare}
-use Rattle.numbers.specs.Printing.{is_below, shown, shown_size}
-use Rattle.numbers.specs.Reading.{scale_of, Means, Answers}
+use Rattle.numbers.specs.Printing.{is_below, shown}
+use Rattle.numbers.specs.Reading.{scale_of, Means, InRange, Answers}
+use Rattle.numbers.proofs.Laws.{own}
 use Rattle.numbers.proofs.Bodies.{number_on_append}
-
-own : IsNumeralModel AllDigits (number_on 0)
-own = numerals_by_fold _ (search rules) number_on (search rules)
 
 sign_is : (z : ℤ) → z ≡ signed_as (is_below z) (nat_abs z)
 sign_is (pos n) = refl
@@ -65,11 +62,9 @@ printed Euro z few =
     (ap (λ x. minus_text (is_below z) ++ (decimal (n / 100) ++ (46 ∷ (x ++ decimal (n % 10))))) (decimal_digit _ t)
     ∙ ap (λ x. minus_text (is_below z) ++ (decimal (n / 100) ++ (46 ∷ (48 + n / 10 % 10) ∷ x))) (decimal_digit _ d))
 
-pub back_signed : (unit : Measure) (z : ℤ) → SFits w32 z → Answers (shown unit z) unit true (Ok z)
-back_signed unit z f = (printed unit z (omega (arith, ints)), (omega (arith, ints), omega (arith, ints)))
-
-pub back_unsigned : (unit : Measure) (n : ℕ) → n ≤ 2147483647 → Answers (shown_size unit n) unit false (Ok (pos n))
-back_unsigned unit n h = (printed unit (pos n) (omega arith), (omega (arith, ints), omega (arith, ints)))
+pub back : (unit : Measure) (sign : Bool) (z : ℤ) → InRange sign z → Answers (shown unit z) unit sign (Ok z)
+back unit true z r = (printed unit z (omega (arith, ints)), r)
+back unit false z r = (printed unit z (omega (arith, ints)), r)
 
 -- what holds of a text holds of the string that has it
 pub held : {T E : Type 0} (r : Result T E) (bytes : T → List ℕ) (bs : List ℕ) (P : List ℕ → Type 0) → P bs → IfOk r (λ t. bytes t ≡ bs) → IfOk r (λ t. P (bytes t))

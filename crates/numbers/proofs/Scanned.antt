@@ -1,36 +1,45 @@
 -- What the steps of a scan find, and that nothing else fits.
-use Rattle.std.proofs.Common.{◌≡◌, ℕ, zero, suc, ◌-◌, ◌*◌, ◌^◌, ◌<◌, ◌≤◌, Bool, true, false, cond, ◌⊎◌, List, [], ◌∷◌, ◌++◌, length, get_or, take, drop, Some, None, Option, sym, refl, ap, ◌∙◌, subst, inl, inr, arith, take-append-drop, MatchOption}
+use Rattle.std.proofs.Common.{◌≡◌, ℕ, zero, suc, ◌-◌, ◌*◌, ◌^◌, ◌<◌, ◌≤◌, Bool, true, false, ◌⊎◌, List, [], ◌∷◌, ◌++◌, length, get_or, take, drop, get_or-take, Some, None, Option, ℤ, pos, sym, refl, ap, ◌∙◌, subst, inl, inr, arith, lit<, take-append-drop, MatchOption}
 use native.Mathlib.Nat.{pow-le-pow_right}
+use Rattle.std.specs.Char.{is_ascii_digit}
+use Rattle.std.specs.List.{prefix_len}
+use Rattle.std.proofs.lemmas.Bool.Decides.{nat_tests}
+use Rattle.std.proofs.lemmas.List.{take_all}
+use Rattle.std.proofs.lemmas.List.Folds.{length-prefix_len}
+use Rattle.std.proofs.lemmas.List.Sums.{prefix_len-le-length, prefix_len_passes, prefix_len_stops}
 use Rattle.std.proofs.lemmas.Slice.{first_rest}
-use Rattle.numbers.specs.Numerals.{Letter, letter_byte, Digit, AllDigits, SomeDigits, number_on, Mark, mark_text, minus_text, lowers}
+use Rattle.numbers.specs.Numerals.{Letter, letter_byte, Digit, AllDigits, SomeDigits, number_on, Mark, mark_text, minus_text, lowers, signed_as}
 use Rattle.numbers.specs.Numerals.Letter.{small, capital}
 use Rattle.numbers.specs.Numerals.Mark.{none, plus, minus}
 use Rattle.numbers.specs.Numerals.Power.{bare, power}
-use Rattle.numbers.proofs.Laws.{heads, tails}
-use Rattle.numbers.specs.Scans.{NoDigit, Splits, Pointed, LonePoint, SignedBy, MarkedBy, Lacks, PowerIs, NoPower}
+use Rattle.numbers.specs.Scans.{NoDigit, Splits, Lacks, PowerIs, NoPower}
+use Rattle.numbers.proofs.Laws.{heads, tails, digits_from}
 
-pub at_none : {A : Type 0} (o : Option A) (P : Type 0) (Q : A → Type 0) → o ≡ None → P → MatchOption o P Q
-at_none None P Q e p = p
-at_none (Some x) P Q e p = let z : ◌≡◌ {A = Option _} (Some x) None = e in absurd (let f : ◌≡◌ {A = ℕ} 0 1 = cc in omega arith)
-
--- what stands after the first byte
+-- what stands after the first byte, and after the first two
 abbrev pub after : List ℕ → List ℕ
 after s = take (length s - 1) (drop 1 s)
 
+abbrev pub after_two : List ℕ → List ℕ
+after_two s = take (length s - 2) (drop 2 s)
+
 pub begins : (s : List ℕ) (b : ℕ) → 0 < length s → get_or s 0 0 ≡ b → s ≡ b ∷ after s
 begins s b h e = first_rest s 0 h ∙ ap (λ x. x ∷ after s) e
+
+goes_on : (s : List ℕ) (b : ℕ) → 2 ≤ length s → get_or s 1 0 ≡ b → after s ≡ b ∷ after_two s
+goes_on [] b h e = absurd (omega arith)
+goes_on (x ∷ []) b h e = absurd (omega arith)
+goes_on (x ∷ y ∷ t) b h e = take_all _ (y ∷ t) (omega arith) ∙ ap (λ z. z ∷ t) e ∙ ap (λ z. b ∷ z) (sym (take_all _ t (omega arith)))
+
+lacks_second : (s : List ℕ) (b : ℕ) → 0 < b → (get_or s 1 0 ≡ b → ⊥) → Lacks b (after s)
+lacks_second [] b h f = λ e. omega arith
+lacks_second (x ∷ []) b h f = λ e. omega arith
+lacks_second (x ∷ y ∷ t) b h f = subst (Lacks b) (sym (goes_on (x ∷ y ∷ t) y (omega arith) refl)) f
 
 pub no_digit_at : (s : List ℕ) (i : ℕ) → i ≤ length s → (i < length s → Digit (get_or s i 0) → ⊥) → NoDigit (drop i s)
 no_digit_at [] zero h f = λ d. omega arith
 no_digit_at [] (suc i) h f = λ d. omega arith
 no_digit_at (c ∷ s) zero h f = f (omega arith)
 no_digit_at (c ∷ s) (suc i) h f = no_digit_at s i (omega arith) (λ l d. f (omega arith) d)
-
--- of digits there is no first that is none
-pub all_at : (s : List ℕ) (i : ℕ) → i < length s → AllDigits s → Digit (get_or s i 0)
-all_at [] i h a = absurd (omega arith)
-all_at (c ∷ s) zero h a = a.0
-all_at (c ∷ s) (suc i) h a = all_at s i (omega arith) a.1
 
 pub sixteen : (k : ℕ) → k ≤ 16 → 1 * 10 ^ k ≤ 9223372036854775808
 sixteen k h = let p : 10 ^ k ≤ 10 ^ 16 = pow-le-pow_right (omega arith) h in omega arith
@@ -72,59 +81,62 @@ pub lacks_short : (b : ℕ) (s : List ℕ) → length s < 1 → 0 < b → Lacks 
 lacks_short b [] h k = λ e. omega arith
 lacks_short b (c ∷ s) h k = absurd (omega arith)
 
-pub signed_minus : (s : List ℕ) → 0 < length s → get_or s 0 0 ≡ 45 → SignedBy s true (after s)
-signed_minus s h e = record { joined = begins s 45 h e; signless = λ z. absurd (let f : ◌≡◌ {A = ℕ} 0 1 = cc in omega arith) }
+-- rest is what follows the sign of an exponent at the front of s
+pub record MarkedBy (s : List ℕ) (mark : Mark) (rest : List ℕ) : Type 0 where
+  pub joined : s ≡ mark_text mark ++ rest
+  pub signless : mark ≡ none → Lacks 45 rest × Lacks 43 rest
 
-pub signed_none : (s : List ℕ) → Lacks 45 s → SignedBy s false s
-signed_none s h = record { joined = refl; signless = λ z. h }
+pub marked_minus : (s : List ℕ) → 2 ≤ length s → get_or s 1 0 ≡ 45 → MarkedBy (after s) minus (after_two s)
+marked_minus s h e = record { joined = goes_on s 45 h e; signless = λ z. absurd (cc) }
 
-pub marked_minus : (s : List ℕ) → 0 < length s → get_or s 0 0 ≡ 45 → MarkedBy s true (after s)
-marked_minus s h e = record { mark = minus; joined = begins s 45 h e; value = refl; signless = λ z. absurd (let f : ◌≡◌ {A = ℕ} 0 1 = cc in omega arith) }
+pub marked_plus : (s : List ℕ) → 2 ≤ length s → get_or s 1 0 ≡ 43 → MarkedBy (after s) plus (after_two s)
+marked_plus s h e = record { joined = goes_on s 43 h e; signless = λ z. absurd (cc) }
 
-pub marked_plus : (s : List ℕ) → 0 < length s → get_or s 0 0 ≡ 43 → MarkedBy s false (after s)
-marked_plus s h e = record { mark = plus; joined = begins s 43 h e; value = refl; signless = λ z. absurd (let f : ◌≡◌ {A = ℕ} 0 1 = cc in omega arith) }
-
-pub marked_none : (s : List ℕ) → Lacks 45 s → Lacks 43 s → MarkedBy s false s
-marked_none s h k = record { mark = none; joined = refl; value = refl; signless = λ z. (h, k) }
+pub marked_none : (s : List ℕ) → (get_or s 1 0 ≡ 45 → ⊥) → (get_or s 1 0 ≡ 43 → ⊥) → MarkedBy (after s) none (after s)
+marked_none s h k = record { joined = refl; signless = λ z. (lacks_second s 45 (lit< tt) h, lacks_second s 43 (lit< tt) k) }
 
 -- an exponent
-pub power_none : PowerIs [] 0 0
-power_none = record { tail = bare; proper = tt; joined = refl; rises = refl; falls = refl }
 
 letter_of : (b : ℕ) → (b ≡ 101) ⊎ (b ≡ 69) → (l : Letter) × (letter_byte l ≡ b)
 letter_of b (inl e) = (small, sym e)
 letter_of b (inr e) = (capital, sym e)
 
-module _ (s : List ℕ) (some : 0 < length s) (l : Bool) (ds : List ℕ) (h : MarkedBy (after s) l ds) where
-  pub power_at : (get_or s 0 0 ≡ 101) ⊎ (get_or s 0 0 ≡ 69) → (n up down : ℕ) → SomeDigits ds × (n ≡ number_on 0 ds) → up ≡ cond l 0 n → down ≡ cond l n 0 → PowerIs s up down
-  power_at q n up down d u v =
+module _ (s : List ℕ) (some : 0 < length s) (mark : Mark) (ds : List ℕ) (h : MarkedBy (after s) mark ds) where
+  pub power_at : (get_or s 0 0 ≡ 101) ⊎ (get_or s 0 0 ≡ 69) → (e : ℤ) → SomeDigits ds → e ≡ signed_as (lowers mark) (number_on 0 ds) → PowerIs s e
+  power_at q e d v =
       let k = letter_of (get_or s 0 0) q in
       record {
-        tail = power k.0 h.mark ds;
-        proper = d.0;
-        joined = ap (λ x. x ∷ (mark_text h.mark ++ ds)) k.1 ∙ ap (λ x. get_or s 0 0 ∷ x) (sym h.joined) ∙ sym (first_rest s 0 some);
-        rises = u ∙ ap (λ x. cond x 0 n) h.value ∙ ap (λ x. cond (lowers h.mark) 0 x) d.1;
-        falls = v ∙ ap (λ x. cond x n 0) h.value ∙ ap (λ x. cond (lowers h.mark) x 0) d.1;
+        tail = power k.0 mark ds;
+        proper = d;
+        joined = ap (λ x. x ∷ (mark_text mark ++ ds)) k.1 ∙ ap (λ x. get_or s 0 0 ∷ x) (sym h.joined) ∙ sym (first_rest s 0 some);
+        value = v;
       }
 
   pub no_power : (SomeDigits ds → ⊥) → NoPower s
   no_power f bare p e = omega (arith, ap length e)
-  no_power f (power k m es) p e = f (subst SomeDigits (mark_at m h.mark es ds p h.signless (tails _ _ _ _ (e ∙ first_rest s 0 some) ∙ h.joined)).1 p)
+  no_power f (power k m es) p e = f (subst SomeDigits (mark_at m mark es ds p h.signless (tails _ _ _ _ (e ∙ first_rest s 0 some) ∙ h.joined)).1 p)
 
-pub splits_at : (s front rest : List ℕ) (i : ℕ) → i ≤ length s → AllDigits (take i s) → (i < length s → Digit (get_or s i 0) → ⊥) → front ≡ take i s → rest ≡ drop i s → Splits s front rest
-splits_at s front rest i h a f p q = record {
-  joined = sym (take-append-drop i s) ∙ ap (λ x. x ++ drop i s) (sym p) ∙ ap (λ x. front ++ x) (sym q);
-  digits = subst AllDigits (sym p) a;
-  stops = subst NoDigit (sym q) (no_digit_at s i h f);
-}
+  -- the digits of an exponent that does not fall
+  pub power_risen : (get_or s 0 0 ≡ 101) ⊎ (get_or s 0 0 ≡ 69) → lowers mark ≡ false → (r : Option ℤ) → MatchOption r (SomeDigits ds → ⊥) (λ n. SomeDigits ds × (n ≡ pos (number_on 0 ds))) → MatchOption r (NoPower s) (PowerIs s)
+  power_risen q l None f = no_power f
+  power_risen q l (Some n) f = power_at q n f.0 (f.1 ∙ ap (λ b. signed_as b (number_on 0 ds)) (sym l))
 
-pub lone : (t ds rest : List ℕ) → Splits t ds rest → length ds ≡ 0 → LonePoint (46 ∷ t)
-lone t [] rest h e = record { rest = t; joined = refl; stops = subst NoDigit (sym h.joined) h.stops }
-lone t (d ∷ ds) rest h e = absurd (omega arith)
+digit_true : (c : ℕ) → is_ascii_digit c ≡ true → Digit c
+digit_true c h = (grind (arith, nat_tests), grind (arith, nat_tests))
 
-pub pointed : (t ds rest : List ℕ) → Splits t ds rest → 0 < length ds → Pointed (46 ∷ t) ds rest
-pointed t [] rest h e = absurd (omega arith)
-pointed t (d ∷ ds) rest h e = record { joined = ap (λ x. 46 ∷ x) h.joined; digits = h.digits; stops = h.stops; pointless = λ z. absurd (omega arith) }
+digit_false : (c : ℕ) → is_ascii_digit c ≡ false → Digit c → ⊥
+digit_false c h d = grind (arith, nat_tests)
 
-pub pointless : (s : List ℕ) → NoDigit s → Lacks 46 s → Pointed s [] s
-pointless s h k = record { joined = refl; digits = tt; stops = h; pointless = λ z. k }
+front_digit : (s : List ℕ) (i : ℕ) → i < prefix_len is_ascii_digit s → Digit (get_or (take (prefix_len is_ascii_digit s) s) i 0)
+front_digit s i h = rw (get_or-take _ s i 0) (digit_true _ (prefix_len_passes is_ascii_digit s i 0 h))
+
+-- the digits at the front
+pub front_splits : (s front rest : List ℕ) → front ≡ take (prefix_len is_ascii_digit s) s → rest ≡ drop (prefix_len is_ascii_digit s) s → Splits s front rest
+front_splits s front rest p q =
+    let n = prefix_len is_ascii_digit s in
+    let le : n ≤ length s = prefix_len-le-length is_ascii_digit s in
+    record {
+      joined = sym (take-append-drop n s) ∙ ap (λ x. x ++ drop n s) (sym p) ∙ ap (λ x. front ++ x) (sym q);
+      digits = subst AllDigits (sym p) (digits_from (take n s) (λ i h. front_digit s i (omega (arith, length-prefix_len is_ascii_digit s))));
+      stops = subst NoDigit (sym q) (no_digit_at s n le (λ h. digit_false _ (prefix_len_stops is_ascii_digit s 0 h)));
+    }

@@ -47,10 +47,3 @@ Answers bs unit sign (Err Range) = (z : ℤ) × (Means bs unit z × (InRange sig
 abbrev pub as_signed : Result ℕ NumberFault → Result ℤ NumberFault
 as_signed (Ok n) = Ok (pos n)
 as_signed (Err e) = Err e
-
--- no answer but r fits
-abbrev pub OnlySigned : List ℕ → Measure → Result ℤ NumberFault → Type 0
-OnlySigned bs unit r = (q : Result ℤ NumberFault) → Answers bs unit true q → q ≡ r
-
-abbrev pub OnlyUnsigned : List ℕ → Measure → Result ℕ NumberFault → Type 0
-OnlyUnsigned bs unit r = (q : Result ℕ NumberFault) → Answers bs unit false (as_signed q) → q ≡ r

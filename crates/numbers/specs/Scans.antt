@@ -1,11 +1,11 @@
--- What the steps of reading a word find: only the contracts of private functions speak of these.
-use Rattle.std.specs.Prelude.{◌≡◌, ℕ, ◌+◌, ◌*◌, ◌^◌, ◌<◌, Bool, false, List, ◌∷◌, ◌++◌, length, ℤ, Ok, Err, Result, ◌≢◌, slice_index}
+-- What the steps of reading a word find: for the contracts of private functions, and `Fitted` for `Figure`.
+use Rattle.std.specs.Prelude.{◌≡◌, ℕ, suc, ◌*◌, ◌^◌, ◌<◌, Bool, List, ◌∷◌, ◌++◌, length, ℤ, pos, negsuc, ◌+ℤ◌, ◌≤ℤ◌, Ok, Err, Result, ◌≢◌, slice_index}
 use Rattle.numbers.specs.declared.Unit.{Unit as Measure}
 use Rattle.numbers.specs.declared.NumberFault.{NumberFault}
 use Rattle.numbers.specs.declared.NumberFault.TheVariants.{Form, Fraction, Range}
-use Rattle.numbers.specs.Numerals.{Digit, AllDigits, Mark, lowers, Power, Numeral, minus_text, mark_text, point_text, power_text, text, ProperPower, Proper, rise, fall, mantissa, places, signed_as}
-use Rattle.numbers.specs.Numerals.Mark.{none}
-use Rattle.numbers.specs.Reading.{WellFormed, Means, InRange}
+use Rattle.numbers.specs.Numerals.{Digit, AllDigits, number_on, lowers, Power, Numeral, point_text, power_text, body_text, ProperPower, Proper, Counts, mantissa, places, signed_as}
+use Rattle.numbers.specs.Numerals.Power.{bare, power}
+use Rattle.numbers.specs.Reading.{scale_of, WellFormed, Means, InRange}
 
 -- no digit comes first; b does not
 abbrev pub NoDigit : List ℕ → Type 0
@@ -33,51 +33,61 @@ pub record LonePoint (s : List ℕ) : Type 0 where
   pub joined : s ≡ 46 ∷ rest
   pub stops : NoDigit rest
 
--- rest is what follows a minus at the front of s, or s where there is none
-pub record SignedBy (s : List ℕ) (b : Bool) (rest : List ℕ) : Type 0 where
-  pub joined : s ≡ minus_text b ++ rest
-  pub signless : b ≡ false → Lacks 45 rest
+-- the power of ten that an exponent writes
+abbrev pub exponent : Power → ℤ
+exponent bare = pos 0
+exponent (power letter mark ds) = signed_as (lowers mark) (number_on 0 ds)
 
--- the same of the sign of an exponent
-pub record MarkedBy (s : List ℕ) (b : Bool) (rest : List ℕ) : Type 0 where
-  pub mark : Mark
-  pub joined : s ≡ mark_text mark ++ rest
-  pub value : b ≡ lowers mark
-  pub signless : mark ≡ none → Lacks 45 rest × Lacks 43 rest
-
--- s is an exponent, or empty
-pub record PowerIs (s : List ℕ) (up down : ℕ) : Type 0 where
+-- s is an exponent, or empty, that writes the power e of ten
+pub record PowerIs (s : List ℕ) (e : ℤ) : Type 0 where
   pub tail : Power
   pub proper : ProperPower tail
   pub joined : power_text tail ≡ s
-  pub rises : up ≡ rise tail
-  pub falls : down ≡ fall tail
+  pub value : e ≡ exponent tail
 
 abbrev pub NoPower : List ℕ → Type 0
 NoPower s = (t : Power) → ProperPower t → power_text t ≢ s
 
--- s writes a number of the sign b that is m * 10 ^ (up - down)
-pub record NumeralIs (s : List ℕ) (b : Bool) (m up down : ℕ) : Type 0 where
+-- an exponent of at most 16 bytes, with room to move the point
+abbrev pub Near : ℤ → Type 0
+Near e = (negsuc (2 ^ 60) ≤ℤ e) × (e ≤ℤ pos (2 ^ 60))
+
+-- s writes, with no sign, a number that is m * 10 ^ e
+pub record BodyIs (s : List ℕ) (m : ℕ) (e : ℤ) : Type 0 where
   pub numeral : Numeral
   pub proper : Proper numeral
-  pub joined : text numeral ≡ s
-  pub sign : b ≡ numeral.negative
+  pub joined : body_text numeral ≡ s
   pub number : m ≡ mantissa numeral
-  pub rises : up ≡ rise numeral.tail
-  pub falls : down ≡ fall numeral.tail + places numeral
+  pub power : e +ℤ pos (places numeral) ≡ exponent numeral.tail
 
-abbrev pub NoNumeral : List ℕ → Type 0
-NoNumeral s = (w : Numeral) → Proper w → text w ≢ s
+abbrev pub NoBody : List ℕ → Type 0
+NoBody s = (w : Numeral) → Proper w → body_text w ≢ s
 
--- m * 10 ^ (up - down) is n units, of which 10 ^ scale make one
-abbrev pub Scaled : ℕ → ℕ → ℕ → ℕ → ℕ → Type 0
-Scaled m up down scale n = m * 10 ^ (up + scale) ≡ n * 10 ^ down
+-- n is m * 10 ^ k
+abbrev pub Lifted : ℕ → ℤ → ℕ → Type 0
+Lifted m (pos k) n = n ≡ m * 10 ^ k
+Lifted m (negsuc k) n = n * 10 ^ suc k ≡ m
 
--- it is no whole number of units, or too many whatever its sign
-abbrev pub Unscaled : ℕ → ℕ → ℕ → ℕ → NumberFault → Type 0
-Unscaled m up down scale Form = ⊥
-Unscaled m up down scale Fraction = (n : ℕ) → Scaled m up down scale n → ⊥
-Unscaled m up down scale Range = (n : ℕ) × (Scaled m up down scale n × (2147483648 < n))
+-- that is no whole number, or too large whatever its sign
+abbrev pub Unlifted : ℕ → ℤ → NumberFault → Type 0
+Unlifted m k Form = ⊥
+Unlifted m k Fraction = (n : ℕ) → Lifted m k n → ⊥
+Unlifted m k Range = (n : ℕ) × (Lifted m k n × (2147483648 < n))
+
+-- s writes, with no sign, z units
+pub record SizeIs (s : List ℕ) (unit : Measure) (z : ℤ) : Type 0 where
+  pub numeral : Numeral
+  pub proper : Proper numeral
+  pub joined : body_text numeral ≡ s
+  pub size : ℕ
+  pub counts : Counts numeral (scale_of unit) size
+  pub value : z ≡ pos size
+
+-- s writes no number of units at most 2 ^ 31
+abbrev pub NoSize : List ℕ → Measure → NumberFault → Type 0
+NoSize s unit Form = NoBody s
+NoSize s unit Fraction = (w : Numeral) × (Proper w × (body_text w ≡ s) × ((n : ℕ) → Counts w (scale_of unit) n → ⊥))
+NoSize s unit Range = (n : ℕ) × (SizeIs s unit (pos n) × (2147483648 < n))
 
 -- the word bs is no number of units at most 2 ^ 31, apart from its sign
 abbrev pub Unread : List ℕ → Measure → NumberFault → Type 0

@@ -1,27 +1,25 @@
 // Number words read exactly as counts of a unit, and counts printed so that they read back the same.
 #![tactic(auto)]
 
-ghost use Rattle.std.specs.Prelude.{◌≡◌, ◌≤◌, true, false, pos, IfOk, Ok, string_bytes, MatchResult};
-ghost use Rattle.numbers.specs.Numerals.{minus_text, signed_as};
-ghost use Rattle.numbers.specs.Reading.{scale_of, fault_number, Means, Answers, as_signed, OnlySigned, OnlyUnsigned};
-ghost use Rattle.numbers.specs.Printing.{is_below, shown, shown_size};
+ghost use Rattle.std.specs.Prelude.{◌≡◌, pos, IfOk, Ok, Result, string_bytes, MatchResult};
+ghost use Rattle.numbers.specs.Numerals.{minus_text};
+ghost use Rattle.numbers.specs.Reading.{scale_of, fault_number, Means, Answers};
+ghost use Rattle.numbers.specs.Printing.{is_below, shown};
 ghost use Rattle.numbers.specs.Examples.{Examples};
-ghost use Rattle.numbers.specs.Scans.{Unread, Fitted};
+ghost use Rattle.numbers.specs.Scans.{Unread, SizeIs, NoSize};
 
 use std::alloc::{AllocError, Global};
 
+mod figures;
 mod scale;
 mod scan;
-mod show;
+mod text;
+
+pub use figures::Figure;
+use scan::Part;
 
 // The most bytes of a number word.
 const LONGEST: usize = 16;
-
-// The greatest count.
-const GREATEST: u64 = 2147483647;
-
-// The most units that a count below nought has.
-const MOST: u64 = 2147483648;
 
 // What a count counts: a thing, a tenth of a MW or a cent.
 #[derive(Clone, Copy)]
@@ -32,8 +30,8 @@ pub enum Unit {
 }
 
 impl Unit {
-    fn decimals(self) -> u64
-        ensures { result ≡ scale_of self }
+    fn decimals(self) -> i64
+        ensures { result ≡ pos (scale_of self) }
     {
         match self {
             Unit::Count => 0,
@@ -43,12 +41,12 @@ impl Unit {
     }
 }
 
-// Why a word is no count: its form, a part of a unit left over, or its size.
+// Why a word is no count, by the numbers of the refusal sheet: its form, a part of a unit left over, or its size.
 #[derive(Clone, Copy, Debug, PartialEq, Eq)]
 pub enum NumberFault {
-    Form,
-    Fraction,
-    Range,
+    Form = 18,
+    Fraction = 19,
+    Range = 20,
 }
 
 impl NumberFault {
@@ -56,100 +54,53 @@ impl NumberFault {
     pub fn number(&self) -> u32
         ensures { result ≡ fault_number self.now }
     {
-        match self {
-            NumberFault::Form => 18,
-            NumberFault::Fraction => 19,
-            NumberFault::Range => 20,
-        }
+        *self as u32
     }
 }
 
-// A number of units, which is below nought or not.
-#[derive(Clone, Copy)]
-struct Amount {
-    below: bool,
-    size: u64,
-}
-
-// How much a word writes in a unit; what no count can hold may be refused already here.
-fn read_amount(word: &[u8], unit: Unit) -> Result<Amount, NumberFault>
-    ensures { MatchResult result (λ a. Means word.now unit (signed_as a.below a.size)) (λ e. Unread word.now unit e) }
+// How many units a word is; what no count can hold may be refused already here.
+fn read_amount(word: &[u8], unit: Unit) -> Result<i64, NumberFault>
+    ensures { MatchResult result (λ z. Means word.now unit z) (λ e. Unread word.now unit e) }
 {
     if word.len() > LONGEST {
         return Err(NumberFault::Form);
     }
-    let Some(parts) = scan::scan_word(word) else {
-        return Err(NumberFault::Form);
-    };
-    let size = scale::scaled(parts, unit.decimals())?;
-    Ok(Amount {
-        below: parts.below,
-        size,
-    })
-}
-
-// The count, where it has 32 signed bits.
-fn with_sign(a: Amount) -> Result<i32, NumberFault>
-    ensures { Fitted true (signed_as a.below a.size) result }
-{
-    if a.below {
-        if a.size > MOST {
-            return Err(NumberFault::Range);
-        }
-        return Ok(-(a.size as i64) as i32);
+    match word {
+        [b'-', bytes @ ..] => Ok(-read_size(Part { bytes }, unit)?),
+        _ => read_size(Part { bytes: word }, unit),
     }
-    if a.size > GREATEST {
-        return Err(NumberFault::Range);
-    }
-    Ok(a.size as i32)
 }
 
-// The count, where it is not below nought and has 31 bits.
-fn without_sign(a: Amount) -> Result<u32, NumberFault>
-    ensures { Fitted false (signed_as a.below a.size) (as_signed result) }
+// The same of a word without its sign.
+fn read_size(body: Part, unit: Unit) -> Result<i64, NumberFault>
+    ensures { MatchResult result (SizeIs body.entry.bytes.now unit) (NoSize body.entry.bytes.now unit) }
 {
-    if a.size > GREATEST || (a.below && a.size > 0) {
-        return Err(NumberFault::Range);
-    }
-    Ok(a.size as u32)
+    let number = scan::scan_body(body).ok_or(NumberFault::Form)?;
+    let size = scale::scaled(number, unit)?;
+    i64::try_from(size).map_err(|_| NumberFault::Range)
 }
 
-// The count that a word writes, of 32 signed bits.
-pub fn read_signed(word: &[u8], unit: Unit) -> Result<i32, NumberFault>
-    ensures answer { Answers word.now unit true result }
-    ensures only { OnlySigned word.now unit result }
+// The count that a word writes.
+pub fn read<F: Figure>(word: &[u8], unit: Unit) -> Result<F, NumberFault>
+    ensures answer { Answers word.now unit F.signed (F.answer result) }
+    ensures only { (q : Result F NumberFault) → Answers word.now unit F.signed (F.answer q) → q ≡ result }
 {
-    with_sign(read_amount(word, unit)?)
+    F::fit(read_amount(word, unit)?)
 }
 
-// The count that a word writes, not below nought and of 31 bits.
-pub fn read_unsigned(word: &[u8], unit: Unit) -> Result<u32, NumberFault>
-    ensures answer { Answers word.now unit false (as_signed result) }
-    ensures only { OnlyUnsigned word.now unit result }
-{
-    without_sign(read_amount(word, unit)?)
-}
-
-fn sign_of(n: i32) -> &'static str
+fn sign_of(n: i64) -> &'static str
     ensures { result.now ≡ minus_text (is_below n) }
 {
     if n < 0 { "-" } else { "" }
 }
 
 // A count as a word with the unit's decimals.
-pub fn show_signed(heap: Global, n: i32, unit: Unit) -> Result<String, AllocError>
-    ensures text { IfOk result (λ t. string_bytes t ≡ shown unit n) }
-    ensures back { IfOk result (λ t. Answers (string_bytes t) unit true (Ok n)) }
+pub fn show<F: Figure>(heap: Global, figure: F, unit: Unit) -> Result<String, AllocError>
+    ensures text { IfOk result (λ t. string_bytes t ≡ shown unit (F.value figure)) }
+    ensures back { F.Readable figure → IfOk result (λ t. Answers (string_bytes t) unit F.signed (Ok (F.value figure))) }
 {
-    show::show_size(heap, sign_of(n), n.unsigned_abs(), unit)
-}
-
-// The same of a count without a sign.
-pub fn show_unsigned(heap: Global, n: u32, unit: Unit) -> Result<String, AllocError>
-    ensures text { IfOk result (λ t. string_bytes t ≡ shown_size unit n) }
-    ensures back { n ≤ 2147483647 → IfOk result (λ t. Answers (string_bytes t) unit false (Ok (pos n))) }
-{
-    show::show_size(heap, "", n, unit)
+    let n = figure.units();
+    text::show_size(heap, sign_of(n), n.unsigned_abs(), unit)
 }
 
 // The examples, as a theorem.
@@ -197,15 +148,15 @@ mod tests {
     #[test]
     fn number_table(rt: HostRuntime) {
         for (word, limit, quantity, plain) in TABLE {
-            assert_eq!(rt; read_signed(word.as_bytes(), Unit::Euro), limit, "{}", word);
+            assert_eq!(rt; read::<i32>(word.as_bytes(), Unit::Euro), limit, "{}", word);
             assert_eq!(rt;
-                read_unsigned(word.as_bytes(), Unit::Megawatt),
+                read::<u32>(word.as_bytes(), Unit::Megawatt),
                 quantity,
                 "{}",
                 word
             );
             assert_eq!(rt;
-                read_unsigned(word.as_bytes(), Unit::Count),
+                read::<u32>(word.as_bytes(), Unit::Count),
                 plain,
                 "{}",
                 word
@@ -220,12 +171,10 @@ mod tests {
             (5000, "50.00"),
             (-2147483648, "-21474836.48"),
         ] {
-            assert!(rt; show_signed(rt.alloc(), n, Unit::Euro)?.as_bytes() == text.as_bytes());
+            assert!(rt; show::<i32>(rt.alloc(), n, Unit::Euro)?.as_bytes() == text.as_bytes());
         }
         for (n, text) in [(0, "0.0"), (200, "20.0"), (4294967295, "429496729.5")] {
-            assert!(rt;
-                show_unsigned(rt.alloc(), n, Unit::Megawatt)?.as_bytes() == text.as_bytes()
-            );
+            assert!(rt; show::<u32>(rt.alloc(), n, Unit::Megawatt)?.as_bytes() == text.as_bytes());
         }
         assert_eq!(rt; NumberFault::Range.number(), 20);
         Ok(())

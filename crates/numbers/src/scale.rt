@@ -1,27 +1,26 @@
 // A scanned number as a whole count of units, apart from its sign.
-ghost use Rattle.std.specs.Prelude.{◌≡◌, ℕ, ◌*◌, ◌^◌, ◌<◌, MatchOption, MatchResult, ◌≢◌};
-ghost use Rattle.numbers.specs.Scans.{Scaled, Unscaled};
+ghost use Rattle.std.specs.Prelude.{◌≡◌, ℕ, ◌*◌, ◌^◌, ◌<◌, ◌≤◌, ◌+ℤ◌, pos, MatchOption, MatchResult, SomeIff, ◌≢◌};
+ghost use Rattle.numbers.specs.Reading.{scale_of};
+ghost use Rattle.numbers.specs.Scans.{Lifted, Unlifted};
 
-use crate::scan::Parts;
-use crate::{MOST, NumberFault};
+use crate::scan::Scientific;
+use crate::{NumberFault, Unit};
 
-// `m` times a power of ten, where that is at most `MOST`.
+// Ten to the power of `by`.
+fn ten_to(by: u64) -> Option<u64>
+    ensures { SomeIff result (10 ^ by < 2 ^ 64) (10 ^ by) }
+{
+    10u64.checked_pow(u32::try_from(by).ok()?)
+}
+
+// `m` times a power of ten, where that has 64 bits.
 fn raised(m: u64, by: u64) -> Option<u64>
-    ensures { MatchOption result (2147483648 < m * 10 ^ by) (λ n. (n ≡ m * 10 ^ by)) }
+    ensures { MatchOption result (2 ^ 64 ≤ m * 10 ^ by) (λ n. (n ≡ m * 10 ^ by)) }
 {
     if m == 0 {
         return Some(0);
     }
-    let mut n = m;
-    let mut k = by;
-    while k > 0 {
-        if n > MOST {
-            return None;
-        }
-        n *= 10;
-        k -= 1;
-    }
-    if n > MOST { None } else { Some(n) }
+    m.checked_mul(ten_to(by)?)
 }
 
 // `m` through a power of ten, where that leaves nothing over.
@@ -31,28 +30,22 @@ fn lowered(m: u64, by: u64) -> Option<u64>
     if m == 0 {
         return Some(0);
     }
-    let mut n = m;
-    let mut k = by;
-    while k > 0 {
-        if n % 10 != 0 {
-            return None;
-        }
-        n /= 10;
-        k -= 1;
+    let power = ten_to(by)?;
+    if m % power == 0 {
+        Some(m / power)
+    } else {
+        None
     }
-    Some(n)
 }
 
-// How many units a number is, of which ten to the power of `decimals` make one.
-pub(crate) fn scaled(p: Parts, decimals: u64) -> Result<u64, NumberFault>
-    requires { (p.shift.up < 2 ^ 60) × ((p.shift.down < 2 ^ 60) × (decimals < 2 ^ 60)) }
-    ensures { MatchResult result (λ n. Scaled p.mantissa p.shift.up p.shift.down decimals n) (λ e. Unscaled p.mantissa p.shift.up p.shift.down decimals e) }
+// How many units a number is.
+pub(crate) fn scaled(number: Scientific, unit: Unit) -> Result<u64, NumberFault>
+    ensures { MatchResult result (Lifted number.mantissa (number.exponent +ℤ pos (scale_of unit))) (Unlifted number.mantissa (number.exponent +ℤ pos (scale_of unit))) }
 {
-    let up = p.shift.up + decimals;
-    let down = p.shift.down;
-    if down <= up {
-        raised(p.mantissa, up - down).ok_or(NumberFault::Range)
+    let by = number.exponent + unit.decimals();
+    if by < 0 {
+        lowered(number.mantissa, by.unsigned_abs()).ok_or(NumberFault::Fraction)
     } else {
-        lowered(p.mantissa, down - up).ok_or(NumberFault::Fraction)
+        raised(number.mantissa, by.unsigned_abs()).ok_or(NumberFault::Range)
     }
 }

@@ -1,34 +1,30 @@
-// The scan of a number word: its sign, its digits and its exponent.
-ghost use Rattle.std.specs.Prelude.{◌≡◌, ◌+◌, ◌*◌, ◌^◌, ◌<◌, ◌≤◌, true, false, length, take, MatchOption, slice_index};
-ghost use Rattle.numbers.specs.Numerals.{Digit, AllDigits, SomeDigits, number_on};
-ghost use Rattle.numbers.specs.Scans.{NoDigit, Splits, Pointed, LonePoint, SignedBy, MarkedBy, PowerIs, NoPower, NumeralIs, NoNumeral};
+// The scan of a number word that has no sign: its digits and its exponent.
+ghost use Rattle.std.specs.Prelude.{◌≡◌, ◌+◌, ◌*◌, ◌^◌, ◌≤◌, pos, length, MatchOption};
+ghost use Rattle.std.specs.Char.{is_ascii_digit};
+ghost use Rattle.std.specs.List.{prefix_len};
+ghost use Rattle.numbers.specs.Numerals.{AllDigits, SomeDigits, number_on};
+ghost use Rattle.numbers.specs.Scans.{NoDigit, Splits, Pointed, LonePoint, PowerIs, NoPower, BodyIs, NoBody, Near};
 
-// A power of ten: `up` less `down`.
+// A number: `mantissa` times ten to the power of `exponent`.
 #[derive(Clone, Copy)]
-pub(crate) struct Shift {
-    pub(crate) up: u64,
-    pub(crate) down: u64,
+pub(crate) struct Scientific {
+    pub(crate) mantissa: u64,
+    pub(crate) exponent: i64,
+    ghost near: { Near exponent },
 }
 
-// A number: `mantissa` times ten to the power of `shift`, which is below nought or not.
+// A word, or a part of one.
 #[derive(Clone, Copy)]
-pub(crate) struct Parts {
-    pub(crate) below: bool,
-    pub(crate) mantissa: u64,
-    pub(crate) shift: Shift,
+pub(crate) struct Part<'a> {
+    pub(crate) bytes: &'a [u8],
+    ghost short: { length bytes.now ≤ 16 },
 }
 
 // How many digits stand at the front.
 fn digit_run(s: &[u8]) -> usize
-    ensures within { result ≤ length s.now }
-    ensures front { AllDigits (take result s.now) }
-    ensures stops { result < length s.now → Digit (slice_index s.now result) → ⊥ }
+    ensures { result ≡ prefix_len is_ascii_digit s.now }
 {
-    let mut n = 0;
-    while n < s.len() && s[n] >= b'0' && s[n] <= b'9' {
-        n += 1;
-    }
-    n
+    s.iter().take_while(|b| b.is_ascii_digit()).count()
 }
 
 // The number that digits write, where `start` stands before them.
@@ -38,7 +34,7 @@ fn read_on(start: u64, ds: &[u8]) -> u64
 {
     let mut n = start;
     for d in ds {
-        n = n * 10 + (*d - b'0') as u64;
+        n = n * 10 + u64::from(*d - b'0');
     }
     n
 }
@@ -51,53 +47,26 @@ fn digits_then(s: &[u8]) -> (&[u8], &[u8])
 }
 
 // The number that is written by digits alone.
-fn read_digits(s: &[u8]) -> Option<u64>
-    requires { length s.now ≤ 16 }
-    ensures { MatchOption result (SomeDigits s.now → ⊥) (λ n. SomeDigits s.now × (n ≡ number_on 0 s.now)) }
+fn read_digits(s: Part) -> Option<i64>
+    ensures { MatchOption result (SomeDigits s.entry.bytes.now → ⊥) (λ n. SomeDigits s.entry.bytes.now × (n ≡ pos (number_on 0 s.entry.bytes.now))) }
 {
-    if s.is_empty() || digit_run(s) < s.len() {
+    let (digits, rest) = digits_then(s.bytes);
+    if digits.is_empty() || !rest.is_empty() {
         return None;
     }
-    Some(read_on(0, s))
+    // `as`: at most 16 digits fit, and `try_from` would add a refusal that cannot happen.
+    Some(read_on(0, digits) as i64)
 }
 
-// Whether a minus stands at the front, and what follows it.
-fn split_minus(s: &[u8]) -> (bool, &[u8])
-    ensures { SignedBy s.now result.0 result.1.now }
+// The power of ten that an exponent writes, or nothing.
+fn read_power(s: Part) -> Option<i64>
+    ensures { MatchOption result (NoPower s.entry.bytes.now) (PowerIs s.entry.bytes.now) }
 {
-    match s {
-        [b'-', rest @ ..] => (true, rest),
-        _ => (false, s),
-    }
-}
-
-// Whether an exponent has a minus, and what follows its sign.
-fn split_mark(s: &[u8]) -> (bool, &[u8])
-    ensures { MarkedBy s.now result.0 result.1.now }
-{
-    match s {
-        [b'-', rest @ ..] => (true, rest),
-        [b'+', rest @ ..] => (false, rest),
-        _ => (false, s),
-    }
-}
-
-// An exponent, or nothing.
-fn read_power(s: &[u8]) -> Option<Shift>
-    requires { length s.now ≤ 16 }
-    ensures { MatchOption result (NoPower s.now) (λ x. PowerIs s.now x.up x.down) }
-{
-    match s {
-        [] => Some(Shift { up: 0, down: 0 }),
-        [b'e' | b'E', size @ ..] => {
-            let (falls, digits) = split_mark(size);
-            let n = read_digits(digits)?;
-            if falls {
-                Some(Shift { up: 0, down: n })
-            } else {
-                Some(Shift { up: n, down: 0 })
-            }
-        }
+    match s.bytes {
+        [] => Some(0),
+        [b'e' | b'E', b'-', bytes @ ..] => Some(-read_digits(Part { bytes })?),
+        [b'e' | b'E', b'+', bytes @ ..] => read_digits(Part { bytes }),
+        [b'e' | b'E', bytes @ ..] => read_digits(Part { bytes }),
         _ => None,
     }
 }
@@ -118,23 +87,19 @@ fn read_point(s: &[u8]) -> Option<(&[u8], &[u8])>
     }
 }
 
-// What a word of at most 16 bytes writes.
-pub(crate) fn scan_word(s: &[u8]) -> Option<Parts>
-    requires { length s.now ≤ 16 }
-    ensures { MatchOption result (NoNumeral s.now) (λ p. NumeralIs s.now p.below p.mantissa p.shift.up p.shift.down) }
+// What a word with no sign writes.
+pub(crate) fn scan_body(s: Part) -> Option<Scientific>
+    ensures { MatchOption result (NoBody s.entry.bytes.now) (λ n. BodyIs s.entry.bytes.now n.mantissa n.exponent) }
 {
-    let (below, body) = split_minus(s);
-    let (whole, rest) = digits_then(body);
+    let (whole, rest) = digits_then(s.bytes);
     if whole.is_empty() {
         return None;
     }
     let (decimals, tail) = read_point(rest)?;
-    let shift = read_power(tail)?;
-    let mantissa = read_on(read_on(0, whole), decimals);
-    let down = shift.down + decimals.len() as u64;
-    Some(Parts {
-        below,
-        mantissa,
-        shift: Shift { up: shift.up, down },
+    let power = read_power(Part { bytes: tail })?;
+    Some(Scientific {
+        mantissa: read_on(read_on(0, whole), decimals),
+        // `as`, as in `read_digits`.
+        exponent: power - decimals.len() as i64,
     })
 }

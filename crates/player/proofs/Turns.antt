@@ -1,23 +1,16 @@
 -- Turns one after another: what they reach, that they leave the session quiet, and their calls.
-use Rattle.std.proofs.Common.{◌≡◌, ℕ, Bool, true, false, cond, List, [], ◌∷◌, ◌++◌, map, reverse, sym, refl, ap, ◌∙◌, subst}
+use Rattle.std.proofs.Common.{◌≡◌, ℕ, Bool, true, false, cond, List, [], ◌∷◌, ◌++◌, map, reverse, Some, None, Ok, sym, refl, ap, ◌∙◌, subst}
 use Rattle.std.proofs.lemmas.List.{append-nil, append_assoc, reverse-append, reverse-reverse}
-use Rattle.std.proofs.lemmas.Bool.{true≢false}
 use Rattle.capacity.specs.Meaning.{Capacity, Sound}
-use Rattle.session.specs.declared.phases.Phase.TheVariants.{Quiet}
 use Rattle.session.specs.Rounds.{Logged, Ran}
 use Rattle.session.specs.State.{State, fresh}
 use Rattle.events.specs.declared.calls.Call.{Call}
-use Rattle.events.specs.declared.calls.Call.TheVariants.{Enter, Change, Withdraw, Request, Notice, Close}
-use Rattle.events.specs.declared.events.Answer.{Answer}
-use Rattle.events.specs.declared.events.Answer.TheVariants.{Refused, Accepted, Gone}
-use Rattle.events.specs.declared.events.StepAnswer.TheVariants.{Traded, Done}
 use Rattle.events.specs.declared.events.Event.{Event}
 use Rattle.events.specs.declared.events.Event.TheVariants.{Called, Stepped}
-use Rattle.events.specs.Events.{round_follows}
+use Rattle.events.specs.Events.{Answer, round_follows}
 use Rattle.events.specs.Turns.{Follows, Turned, with_steps, with_turn}
+use Rattle.events.proofs.Tests.{none_begun}
 use Rattle.history.specs.History.{Reached}
-use Rattle.history.proofs.Accepted.{Meant}
-use Rattle.history.proofs.Means.{means}
 use Rattle.history.proofs.Together.{lawfully}
 use Rattle.history.proofs.Turning.{turned_placed}
 use Rattle.player.specs.Playing.{placed, Played, Plays, calls_of}
@@ -30,36 +23,20 @@ played_reached m n p s h (k ∷ ks) t g r (a, xs, u, (turn, rest)) =
 
 -- ---- quiet
 
-ran_quiet : (s : State) (xs : List Logged) (t : State) → Ran s xs t → t.phase ≡ Quiet
-ran_quiet s [] t r = ap (λ (u : State). u.phase) r.state
+ran_quiet : (s : State) (xs : List Logged) (t : State) → Ran s xs t → t.round ≡ None
+ran_quiet s [] t r = ap (λ (u : State). u.round) r.state
 ran_quiet s (x ∷ xs) t (u, makes, rest) = ran_quiet u xs t rest
 
--- a call that begins no round leaves the session as quiet as it was
-same_phase : (s : State) (k : Call) (a : Answer) (t : State) → round_follows k a ≡ false → Meant s k a t → t.phase ≡ s.phase
-same_phase s k (Refused f) t b x = ap (λ (u : State). u.phase) x
-same_phase s (Enter e) Accepted t b x = absurd (true≢false b)
-same_phase s (Change n i l q) Accepted t b x = absurd (true≢false b)
-same_phase s (Withdraw n i) Accepted t b x = ap (λ (u : State). u.phase) x.after
-same_phase s (Request c y z q) Accepted t b x = absurd (true≢false b)
-same_phase s (Notice c y z f) Accepted t b x = absurd (true≢false b)
-same_phase s (Close c) Accepted t b x = absurd x
-same_phase s (Enter e) (Gone i) t b x = absurd x
-same_phase s (Change n i l q) (Gone j) t b x = absurd x
-same_phase s (Withdraw n i) (Gone j) t b x = absurd x
-same_phase s (Request c y z q) (Gone j) t b x = absurd x
-same_phase s (Notice c y z f) (Gone j) t b x = absurd x
-same_phase s (Close c) (Gone n) t b x = ap (λ (u : State). u.phase) x.after
-
-followed_quiet : (b : Bool) (s : State) (xs : List Logged) (t : State) → (b ≡ false → s.phase ≡ Quiet) → Follows b s xs t → t.phase ≡ Quiet
+followed_quiet : (b : Bool) (s : State) (xs : List Logged) (t : State) → (b ≡ false → s.round ≡ None) → Follows b s xs t → t.round ≡ None
 followed_quiet true s xs t q f = ran_quiet s xs t f
-followed_quiet false s xs t q f = ap (λ (u : State). u.phase) f.1 ∙ q refl
+followed_quiet false s xs t q f = ap (λ (u : State). u.round) f.1 ∙ q refl
 
-turned_quiet : (s : State) (p : ℕ) (k : Call) (a : Answer) (xs : List Logged) (t : State) → s.phase ≡ Quiet → Turned s p k a xs t → t.phase ≡ Quiet
+turned_quiet : (s : State) (p : ℕ) (k : Call) (a : Answer) (xs : List Logged) (t : State) → s.round ≡ None → Turned s p k a xs t → t.round ≡ None
 turned_quiet s p k a xs t q turn =
-    followed_quiet (round_follows k a) turn.called xs t (λ b. same_phase s k a turn.called b (means s p k a turn.called turn.answered) ∙ q) turn.followed
+    followed_quiet (round_follows k a) turn.called xs t (λ b. none_begun s p k a turn.called turn.answered b ∙ q) turn.followed
 
-played_quiet : (p : ℕ) (s : State) (h : List Event) (ks : List Call) (t : State) (g : List Event) → s.phase ≡ Quiet → Played p s h ks t g → t.phase ≡ Quiet
-played_quiet p s h [] t g q (e, f) = ap (λ (u : State). u.phase) e ∙ q
+played_quiet : (p : ℕ) (s : State) (h : List Event) (ks : List Call) (t : State) (g : List Event) → s.round ≡ None → Played p s h ks t g → t.round ≡ None
+played_quiet p s h [] t g q (e, f) = ap (λ (u : State). u.round) e ∙ q
 played_quiet p s h (k ∷ ks) t g q (a, xs, u, (turn, rest)) = played_quiet p u (with_turn p k a (map placed xs) h) ks t g (turned_quiet s p k a xs u q turn) rest
 
 -- ---- the calls
@@ -77,9 +54,9 @@ made_newest : (e : Event) (h : List Event) → made (e ∷ h) ≡ made h ++ call
 made_newest e h = ap calls_of (reverse-append (e ∷ []) h) ∙ calls_append (reverse h) (e ∷ [])
 
 made_steps : (p : ℕ) (xs : List Logged) (h : List Event) → made (with_steps p xs h) ≡ made h
-made_steps p [] h = made_newest (Stepped p 16 Done) h ∙ append-nil (made h)
+made_steps p [] h = made_newest (Stepped p 16 (Ok None)) h ∙ append-nil (made h)
 made_steps p (x ∷ xs) h =
-    let e = Stepped p 16 (Traded x.trade x.route) in
+    let e = Stepped p 16 (Ok (Some (record { trade = x.trade; route = x.route }))) in
     made_steps p xs (e ∷ h) ∙ made_newest e h ∙ append-nil (made h)
 
 made_turn : (p : ℕ) (k : Call) (a : Answer) (xs : List Logged) (h : List Event) → made (with_turn p k a xs h) ≡ made h ++ k ∷ []

@@ -1,13 +1,12 @@
 -- The events that a list of calls makes on a session begun afresh.
-use Rattle.std.specs.Prelude.{◌≡◌, ℕ, ◌-◌, List, [], ◌∷◌, ◌++◌, map, reverse, length, take, replicate}
+use Rattle.std.specs.Prelude.{◌≡◌, ℕ, ◌-◌, List, [], ◌∷◌, ◌++◌, map, reverse, length, take, replicate, None}
 use Rattle.capacity.specs.Meaning.{Capacity}
-use Rattle.session.specs.declared.phases.Phase.TheVariants.{Quiet}
 use Rattle.session.specs.Rounds.{Logged}
 use Rattle.session.specs.State.{State, fresh}
 use Rattle.events.specs.declared.calls.Call.{Call}
-use Rattle.events.specs.declared.events.Answer.{Answer}
 use Rattle.events.specs.declared.events.Event.{Event}
 use Rattle.events.specs.declared.events.Event.TheVariants.{Called, Stepped}
+use Rattle.events.specs.Events.{Answer}
 use Rattle.events.specs.Turns.{Turned, with_turn}
 use Rattle.history.specs.Laws.{Lawfully}
 
@@ -30,7 +29,7 @@ pub record Plays (m : Capacity) (n : ℕ) (ks : List Call) (es : List Event) : T
   pub after : State
   pub turns : Played n (fresh n m) [] ks after (reverse es)
   pub lawful : Lawfully m n (reverse es) after
-  pub quiet : after.phase ≡ Quiet
+  pub quiet : after.round ≡ None
 
 -- the calls among the events
 abbrev pub calls_of : List Event → List Call

@@ -1,56 +1,54 @@
 // The events of a session as they happen, noted in one list.
-ghost use Rattle.std.specs.Prelude.{◌≡◌, []};
+ghost use Rattle.std.specs.Prelude.{◌≡◌, [], Some};
 ghost use Rattle.player.specs.Logs.{told, trade_event, Adds};
 ghost use Rattle.player.specs.Playing.{places};
 
-use events::events::{Event, StepAnswer};
+use events::events::{Event, Traded};
 use events::performing::CallLog;
+use routes::ROUTE_PLACES;
 use session::finishing::TradeLog;
-use std::alloc::Global;
+use std::alloc::{AllocError, Global};
 use trades::Trade;
 
-// The most areas of a route, so a round steps over as many places.
-pub(crate) const ROUTE_PLACES: usize = 16;
-
-// A round must be run to its end even where the memory does not suffice for its events, so the log notes that and goes on.
+// A round must be run to its end even where the memory does not suffice for its events: then the log keeps that, and no event more.
 #[derive(Drop)]
 pub(crate) struct EventLog {
     // the number of the pass that every call and step is made with
     pub(crate) pass: u32,
-    pub(crate) events: Vec<Event>,
-    pub(crate) full: bool,
+    pub(crate) events: Result<Vec<Event>, AllocError>,
 }
 
 impl EventLog {
     pub(crate) fn new(heap: Global, pass: u32) -> EventLog
         ensures pass { result.pass ≡ pass }
-        ensures events { told result ≡ [] }
+        ensures events { told result ≡ Some [] }
     {
         EventLog {
             pass,
-            events: Vec::new(heap),
-            full: false,
+            events: Ok(Vec::new(heap)),
         }
     }
 
-    // Adds an event as the newest.
+    // Adds an event as the newest. As the log of `runs` adds text: a function for both would take type and step and be no shorter.
     pub(crate) fn add(&mut self, event: Event)
         ensures { Adds self.old event self.new }
     {
-        if self.events.push(event).is_err() {
-            self.full = true;
+        if let Ok(events) = &mut self.events {
+            if let Err(failed) = events.push(event) {
+                self.events = Err(failed.into());
+            }
         }
     }
 }
 
-// The areas of a route in the places of a step, nought in the places past them.
+// The areas of a route in the places of a step, nought in the places past them. Tried as `array::from_fn`: it took a lemma and an
+// answer, and this none.
 fn places_of(route: &[u32]) -> [u32; ROUTE_PLACES]
     ensures { result ≡ places route.now }
 {
-    let mut places = [0u32; ROUTE_PLACES];
+    let mut places = [0; ROUTE_PLACES];
     let n = route.len().min(ROUTE_PLACES);
-    let front = &mut places[0..n];
-    front.copy_from_slice(&route[0..n]);
+    places[..n].copy_from_slice(&route[..n]);
     places
 }
 
@@ -58,14 +56,14 @@ impl TradeLog for EventLog {
     ghost notes = { λ a x b. Adds a (trade_event a.pass x) b };
 
     fn note(&mut self, trade: &Trade, route: &[u32]) {
-        let answer = StepAnswer::Traded {
+        let traded = Traded {
             trade: *trade,
             route: places_of(route),
         };
         self.add(Event::Stepped {
             pass: self.pass,
             places: ROUTE_PLACES,
-            answer,
+            answer: Ok(Some(traded)),
         });
     }
 }

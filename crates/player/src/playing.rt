@@ -1,38 +1,22 @@
 // Calls played one after another on a session begun afresh, each round run to its end.
 ghost use Rattle.std.specs.Prelude.{◌≡◌, IfOk};
-ghost use Rattle.events.specs.Events.{begins_round, round_follows};
 ghost use Rattle.history.specs.Laws.{LawsHold, OneAnswer};
 ghost use Rattle.session.specs.State.{state};
 ghost use Rattle.player.specs.Logs.{TurnNoted};
 ghost use Rattle.player.specs.Playing.{Plays, calls_of};
 
-use crate::logs::{EventLog, ROUTE_PLACES};
+use crate::logs::EventLog;
 use capacity::register::Register;
 use events::calls::Call;
-use events::events::{Answer, Event, StepAnswer};
+use events::events::Event;
 use events::performing::perform;
+use routes::ROUTE_PLACES;
 use session::passes::QuietPass;
 use session::state::Session;
 use std::alloc::{AllocError, Global};
 
-// Whether a call begins a round, once it is accepted.
-fn begins_round(call: &Call) -> bool
-    ensures { result ≡ begins_round call.now }
-{
-    match *call {
-        Call::Withdraw { .. } => false,
-        Call::Close { .. } => false,
-        _ => true,
-    }
-}
-
-fn round_follows(call: &Call, answer: Answer) -> bool
-    ensures { result ≡ round_follows call.now answer }
-{
-    begins_round(call) && answer.accepted().is_ok()
-}
-
 // Makes a call and runs its round to its end; the call, each trade and the end of the round are noted.
+// The parameters are those of `perform`, which takes the pass by value and the rest by reference, so no struct holds them.
 fn take_turn<R: Register>(
     session: &mut Session<R>,
     pass: QuietPass,
@@ -44,11 +28,12 @@ fn take_turn<R: Register>(
     ensures pass { result.number ≡ pass.number }
 {
     let (answer, quiet) = perform(session, pass, call, log);
-    if round_follows(call, answer) {
+    let follows = call.begins_round() && answer.is_ok();
+    if follows {
         log.add(Event::Stepped {
             pass: log.pass,
             places: ROUTE_PLACES,
-            answer: StepAnswer::Done,
+            answer: Ok(None),
         });
     }
     quiet
@@ -71,8 +56,5 @@ pub fn play<R: Register + Drop>(
     for call in calls {
         pass = take_turn(&mut session, pass, call, &mut log);
     }
-    if log.full {
-        return Err(AllocError);
-    }
-    Ok(log.events)
+    log.events
 }

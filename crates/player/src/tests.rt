@@ -1,10 +1,11 @@
 // A worked list of calls: a notice, two orders that trade across the border, and a withdrawal that is refused.
 use crate::playing::play;
 use book::rows::{Kind, OrderTerms, Side};
+use capacity::direction::Direction;
 use capacity::figures::Figures;
 use capacity::map::ConnectorMap;
 use events::calls::Call;
-use events::events::{Answer, Event, StepAnswer};
+use events::events::Event;
 use session::entries::Entry;
 use std::test::Fail;
 
@@ -30,9 +31,11 @@ fn order(number: u32, side: Side, area: u32) -> Call {
 
 fn notice() -> Call {
     Call::Notice {
-        contract: CONTRACT,
-        from: 0,
-        to: 1,
+        direction: Direction {
+            contract: CONTRACT,
+            from: 0,
+            to: 1,
+        },
         figures: Figures {
             ntc: 100,
             ntc_back: 0,
@@ -61,12 +64,12 @@ fn trade_across_the_border(rt: HostRuntime) -> Result<(), Fail> {
         Event::Stepped {
             pass,
             places: _,
-            answer: StepAnswer::Traded { trade, route },
+            answer: Ok(Some(traded)),
         } => {
             assert_eq!(rt; pass, 9);
-            assert_eq!(rt; trade.quantity, 50);
-            assert_eq!(rt; route[1], 1);
-            assert_eq!(rt; route[2], 0);
+            assert_eq!(rt; traded.trade.quantity, 50);
+            assert_eq!(rt; traded.route[1], 1);
+            assert_eq!(rt; traded.route[2], 0);
         }
         _ => return Err(Fail::new("no trade")),
     }
@@ -74,7 +77,7 @@ fn trade_across_the_border(rt: HostRuntime) -> Result<(), Fail> {
         Event::Called {
             pass: _,
             call: _,
-            answer: Answer::Refused(fault),
+            answer: Err(fault),
         } => {
             assert_eq!(rt; fault.number(), 9);
             Ok(())

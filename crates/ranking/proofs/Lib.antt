@@ -1,4 +1,3 @@
 -- Lemmas on ranked lists.
-pub mod Shifting
 pub mod Inserting
 pub mod Laws

@@ -3,7 +3,8 @@ ghost use Rattle.ranking.specs.Marks.{mark_before, marks_ordered};
 
 use crate::order::Ranked;
 
-#[derive(Clone, Copy)]
+// Its order is that of its fields, from the first on.
+#[derive(Clone, Copy, PartialEq, Eq, PartialOrd, Ord)]
 pub struct Mark {
     pub first: i32,
     pub second: u32,
@@ -16,18 +17,6 @@ impl Ranked for Mark {
     ghost ordered = { marks_ordered };
 
     fn before(&self, other: &Mark) -> bool {
-        if self.first < other.first {
-            return true;
-        }
-        if other.first < self.first {
-            return false;
-        }
-        if self.second < other.second {
-            return true;
-        }
-        if other.second < self.second {
-            return false;
-        }
-        self.third < other.third
+        self < other
     }
 }

@@ -5,15 +5,14 @@ ghost use Rattle.ranking.specs.Refusals.{fault_number};
 #[derive(Clone, Copy)]
 pub enum RankingFault {
     // every line that was lent is in use
-    Full,
+    Full = 15,
 }
 
 impl RankingFault {
+    // The number that it is refused by.
     pub fn number(&self) -> u32
         ensures { result ≡ fault_number self.now }
     {
-        match self {
-            RankingFault::Full => 15,
-        }
+        *self as u32
     }
 }

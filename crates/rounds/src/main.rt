@@ -2,12 +2,13 @@
 #![tactic(auto)]
 
 use anyhow::anyhow;
+use reading::reader::calls::SCRIPT_MOST;
 use std::env;
 use std::fs::File;
 use std::io::{Read, Write};
 
 // One byte more than a script may have is enough to see that it is too long.
-const READ_MOST: u64 = 65_537;
+const READ_MOST: u64 = SCRIPT_MOST as u64 + 1;
 
 fn read_some<T: Read + Drop>(rt: &HostRuntime, source: T) -> anyhow::Result<Vec<u8>> {
     let mut bytes = Vec::new(rt.alloc());

@@ -1,19 +1,14 @@
 -- Levels begin with level 1, and a sweep gives one level more.
 use Rattle.std.proofs.Common.{◌≡◌, ℕ, ◌+◌, ◌<◌, ◌≤◌, ◌≢◌, List, length, set, replicate, sym, ap, ◌∙◌, inl, inr, arith}
 use Rattle.std.proofs.lemmas.Bool.{cases_eq, cases_lt}
-use Rattle.std.proofs.lemmas.List.{get_or-set_same, get_or-set_other, length-set, get_or_past, get_or-replicate}
+use Rattle.std.proofs.lemmas.List.{get_or-set_same, get_or-set_other, length-set, get_or_past}
+use Rattle.routes.proofs.Made.{blank}
 use Rattle.routes.specs.Levels.{lv, Next, Levels}
 use Rattle.routes.specs.Paths.{Relation, Hop}
 
-pub blank : (k : ℕ) → lv (replicate 16 0) k ≡ 0
-blank k = elim (cases_lt k 16) [
-  | inl l ↦ get_or-replicate 16 k 0 0 l
-  | inr l ↦ get_or_past (replicate 16 0) k 0 l
-]
-
 module _ (O : Relation) (q : ℕ) (l : q < 16) where
   at : (k : ℕ) → k ≢ q → lv (set (replicate 16 0) q 1) k ≡ 0
-  at k h = get_or-set_other (replicate 16 0) q k 1 0 h ∙ blank k
+  at k h = get_or-set_other (replicate 16 0) q k 1 0 h ∙ blank 16 k 0
 
   here : lv (set (replicate 16 0) q 1) q ≡ 1
   here = get_or-set_same (replicate 16 0) q 1 0 l
@@ -35,7 +30,7 @@ module _ (O : Relation) (q : ℕ) (l : q < 16) where
     back = λ a b o p k. absurd (omega arith);
   }
 
-module _ (O : Relation) (q : ℕ) (d e : List ℕ) (n : ℕ) (pos : 1 ≤ n) (f : Levels O q d n n) (long : length e ≡ 16) (next : (a : ℕ) → a < 16 → Next O d e n a) where
+module _ (O : Relation) (q : ℕ) (d e : List ℕ) (n : ℕ) (pos : 1 ≤ n) (f : Levels O q d n n) (long : length e ≡ 16) (next : (a : ℕ) → a < 16 → Next O d n a (lv e a)) where
   -- an area of level n or lower had it before
   was : (a : ℕ) → a < 16 → 0 < lv e a → lv e a < n + 1 → lv d a ≡ lv e a
   was a l p k = elim (cases_eq (lv d a) 0) [

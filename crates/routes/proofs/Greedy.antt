@@ -1,7 +1,6 @@
 -- Going down the levels through the lowest area each time gives the route.
-use Rattle.std.proofs.Common.{◌≡◌, ℕ, ◌+◌, ◌-◌, ◌<◌, ◌≢◌, List, [], ◌∷◌, ◌++◌, length, get_or, take, set, sym, refl, subst, inl, inr, append_assoc, append-nil, arith, length-append}
-use Rattle.std.proofs.lemmas.List.{get_or-set_same, get_or-set_other, set_past, get_or-take, get_or_past, length-take}
-use Rattle.std.proofs.lemmas.Bool.{cases_eq, cases_order, cases_lt}
+use Rattle.std.proofs.Common.{◌≡◌, ℕ, ◌+◌, ◌-◌, ◌<◌, ◌≢◌, List, [], ◌∷◌, ◌++◌, length, sym, refl, subst, inl, inr, append_assoc, append-nil, arith, length-append}
+use Rattle.std.proofs.lemmas.Bool.{cases_eq, cases_order}
 use Rattle.routes.specs.Levels.{lv, NoneOpen, LowestOpen, AllLevels}
 use Rattle.routes.specs.Paths.{Area, Relation, Hop, Onward, Path, Lower, Before, IsRoute}
 use Rattle.routes.proofs.Falls.{Falls, falls_path, falls_length, leads_back, onward_long}
@@ -104,20 +103,3 @@ module _ (O : Relation) (d : List ℕ) (q p a : ℕ) (front : List ℕ) (s : Beg
 
   pub begun_all : a ≡ q → IsRoute O p q front
   begun_all e = starts_route front (rw append-nil at (s.grows [] e))
-
--- an array of areas has only areas after one is written
-pub areas_set : (xs : List ℕ) (i v : ℕ) → ((k : ℕ) → get_or xs k 0 < 16) → v < 16 → (k : ℕ) → get_or (set xs i v) k 0 < 16
-areas_set xs i v h l k = elim (cases_eq k i) [
-  | inl e ↦ elim (cases_lt i (length xs)) [
-    | inl m ↦ subst (λ z. get_or (set xs i v) z 0 < 16) (sym e) (rw (get_or-set_same xs i v 0 m) l)
-    | inr m ↦ rw (set_past xs i v m) (h k)
-  ]
-  | inr n ↦ rw (get_or-set_other xs i k v 0 n) (h k)
-]
-
--- and so have the first of them
-pub areas_take : (n : ℕ) (xs : List ℕ) → ((k : ℕ) → get_or xs k 0 < 16) → (k : ℕ) → get_or (take n xs) k 0 < 16
-areas_take n xs h k = elim (cases_lt k n) [
-  | inl l ↦ rw (get_or-take n xs k 0 l) (h k)
-  | inr l ↦ rw (get_or_past (take n xs) k 0 (omega (arith, length-take n xs))) (omega arith)
-]

@@ -4,10 +4,9 @@ pub mod Reached
 pub mod Unique
 pub mod Carried
 pub mod Repeats
+mod Made
 mod Found
-mod Sweeps
 mod Falls
 mod Greedy
-mod Chosen
-mod Ends
+pub mod Ends
 mod Diamond

@@ -16,11 +16,11 @@ pub record LowestOpen (Open : Relation) (d : List ℕ) (a n b : ℕ) : Type 0 wh
   pub level : lv d b ≡ n
   pub lowest : (c : ℕ) → c < b → Hop Open a c → lv d c ≢ n
 
--- an area a as the levels go from d to e: one that has a level keeps it, and one that has none
+-- the level l of an area a after a sweep of the levels d: an area that has a level keeps it, and one that has none
 -- gets the level above n where an area of level n is open from it, and else still has none
-pub record Next (Open : Relation) (d e : List ℕ) (n a : ℕ) : Type 0 where
-  pub kept : 0 < lv d a → lv e a ≡ lv d a
-  pub newly : lv d a ≡ 0 → ((lv e a ≡ 0) × NoneOpen Open d a n) ⊎ ((lv e a ≡ n + 1) × ((b : ℕ) × Hop Open a b × (lv d b ≡ n)))
+pub record Next (Open : Relation) (d : List ℕ) (n a l : ℕ) : Type 0 where
+  pub kept : 0 < lv d a → l ≡ lv d a
+  pub newly : lv d a ≡ 0 → ((l ≡ 0) × NoneOpen Open d a n) ⊎ ((l ≡ n + 1) × ((b : ℕ) × Hop Open a b × (lv d b ≡ n)))
 
 -- levels up to `top` are given: q alone has level 1, each area above level 1 leads to one a level lower,
 -- and what leads to an area of a level below `done` has a level at most one higher

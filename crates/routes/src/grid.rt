@@ -3,7 +3,7 @@ ghost use Rattle.routes.specs.Grids.{opens, shut, turned};
 ghost use Rattle.std.specs.Prelude.{◌≡◌};
 
 // How many areas there are: the areas are 0 to 15.
-pub(crate) const AREAS: u32 = 16;
+pub const AREAS: u32 = 16;
 
 // A flag for each direction, by the area it leads from and then by the one it leads to.
 #[derive(Clone, Copy)]
@@ -22,6 +22,7 @@ impl Grid {
     }
 
     // Opens or shuts one direction; a number that is no area changes nothing.
+    // Two numbers: areas with no contract are asked for by grids and maps, and a struct for them is no plainer.
     pub fn set(&mut self, from: u32, to: u32, value: bool)
         ensures { opens self.new ≡ turned (opens self.old) from to value }
     {

@@ -7,8 +7,8 @@ mod route;
 mod sizes;
 mod trace;
 
-pub use grid::Grid;
-pub use route::Route;
+pub use grid::{AREAS, Grid};
+pub use route::{ROUTE_PLACES, Route};
 pub use sizes::Sizes;
 
 #[cfg(test)]
@@ -30,15 +30,8 @@ mod tests {
         join(&mut grid, 0, 2);
         join(&mut grid, 2, 3);
         grid.set(3, 3, true);
-        let Some(route) = grid.route(0, 3) else {
-            assert!(rt; false, "no path");
-            return Ok(());
-        };
-        let areas = route.areas();
-        assert!(rt; areas.len() == 3);
-        assert_eq!(rt; areas[0], 0);
-        assert_eq!(rt; areas[1], 1);
-        assert_eq!(rt; areas[2], 3);
+        let route = grid.route(0, 3).ok_or("no path")?;
+        assert_eq!(rt; route.areas(), [0, 1, 3].as_slice());
         grid.set(0, 1, false);
         assert_eq!(rt; grid.sizes_to(3).of(0), 3);
         assert_eq!(rt; grid.sizes_to(3).of(4), 0);

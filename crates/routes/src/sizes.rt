@@ -5,13 +5,16 @@ ghost use Rattle.routes.specs.Listed.{size_of};
 ghost use Rattle.routes.specs.Paths.{Size};
 ghost use Rattle.routes.specs.Laws.{Reach, Reaches};
 
-use crate::grid::{AREAS, Grid};
-use crate::levels::{NO_PATH, levels_to};
+use crate::grid::Grid;
+use crate::levels::Levelled;
+
+// The size where no path leads: a number and no Option, since it is the one that `Size` has there, and `0 <` asks for a path as plainly.
+pub(crate) const NO_PATH: u32 = 0;
 
 // For each area how many areas the route from it has, 0 where there is none.
 #[derive(Clone, Copy)]
 pub struct Sizes {
-    sizes: [u32; 16],
+    pub(crate) sizes: [u32; 16],
 }
 
 impl Sizes {
@@ -19,11 +22,7 @@ impl Sizes {
     pub fn of(&self, from: u32) -> u32
         ensures { result ≡ size_of self.now from }
     {
-        if from < AREAS {
-            self.sizes[from as usize]
-        } else {
-            NO_PATH
-        }
+        self.sizes.get(from as usize).copied().unwrap_or(NO_PATH)
     }
 }
 
@@ -34,14 +33,11 @@ impl Grid {
         ensures reach { (a : ℕ) → (0 < size_of result a → Reach (Leads self.now) a to) × (Reach (Leads self.now) a to → 0 < size_of result a) }
         ensures laws { Reaches }
     {
-        if to < AREAS {
-            Sizes {
-                sizes: levels_to(self, to),
-            }
-        } else {
-            Sizes {
+        match Levelled::towards(self, to) {
+            Some(levelled) => levelled.levels,
+            None => Sizes {
                 sizes: [NO_PATH; 16],
-            }
+            },
         }
     }
 }

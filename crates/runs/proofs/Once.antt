@@ -1,28 +1,18 @@
 -- What a script prints is determined by the script.
-use Rattle.std.proofs.Common.{◌≡◌, ℕ, ◌+◌, cond, eqb, List, [], ◌∷◌, ◌++◌, length, Ok, Err, Result, sym, refl, ap, ◌∙◌, subst, inl, inr, arith}
-use Rattle.capacity.specs.declared.faults.MapFault.{MapFault}
-use Rattle.capacity.specs.declared.faults.MapFault.TheVariants.{Kept, Connector}
-use Rattle.capacity.specs.Faults.{MapRefusal, map_told}
+use Rattle.std.proofs.Common.{◌≡◌, ℕ, List, [], ◌∷◌, length, Ok, Err, sym, ap, ◌∙◌, subst}
 use Rattle.capacity.specs.Meaning.{Capacity}
-use Rattle.capacity.specs.Network.{Network, no_network}
-use Rattle.capacity.specs.Tests.{said}
 use Rattle.session.specs.Rounds.{Logged}
 use Rattle.session.specs.State as session
 use Rattle.session.specs.State.{State}
 use Rattle.events.specs.declared.calls.Call.{Call}
-use Rattle.events.specs.declared.events.Answer.{Answer}
+use Rattle.events.specs.Events.{Answer}
 use Rattle.events.specs.Turns.{Turned}
 use Rattle.history.proofs.OneTurn.{one_turn}
-use Rattle.lines.specs.declared.faults.LineFault.TheVariants.{Map}
-use Rattle.lines.specs.declared.links.Link.{Link}
-use Rattle.lines.specs.Asking.{link_fields, link}
-use Rattle.lines.specs.Text.{lines, words}
-use Rattle.lines.specs.Fields.{after_letter}
-use Rattle.lines.proofs.Once.{not_both, one_making, one_asking}
-use Rattle.runs.specs.Output.{mark_line}
-use Rattle.runs.specs.Runs.{session_number, Outcome, unread, turn, Line, Lines, all_printed, Calls, Linked, upward, Connects, MapLine, map_printed, register_on, Maps, Headed, ComesTo, Prints}
-
--- ---- the lines of calls
+use Rattle.reading.specs.Text.{words}
+use Rattle.reading.proofs.Once as script
+use Rattle.reading.proofs.Once.{not_both}
+use Rattle.lines.proofs.Once.{one_asking}
+use Rattle.runs.specs.Runs.{session_number, Outcome, unread, turn, Line, Lines, all_printed, Calls, Prints}
 
 same_turn : (s : State) (k k' : Call) (a a' : Answer) (xs xs' : List Logged) (t t' : State) → k ≡ k' → Turned s session_number k a xs t → Turned s session_number k' a' xs' t' → (a ≡ a') × (xs ≡ xs') × (t ≡ t')
 same_turn s k k' a a' xs xs' t t' e h h' = one_turn s session_number k a a' xs xs' t t' h (subst (λ (c : Call). Turned s session_number c a' xs' t') (sym e) h')
@@ -51,62 +41,5 @@ one_calls : (m : Capacity) (n : ℕ) (ls : List (List ℕ)) (out out' : List ℕ
 one_calls m n ls out out' h k =
     h.text ∙ ap (all_printed n) (one_lines ls (session.fresh session_number m) h.outcomes k.outcomes h.after k.after h.each k.each) ∙ sym k.text
 
--- ---- the lines of the map
-
--- no two faults of a map tell the same
-abbrev map_fault : MapRefusal → MapFault
-map_fault r = cond (eqb r.number 12) (Kept r.from r.to) (Connector r.from r.to)
-
-map_fault_told : (f : MapFault) → map_fault (map_told f) ≡ f
-map_fault_told (Kept a b) = refl
-map_fault_told (Connector a b) = refl
-
-same_said : (a b : Result (Unit {0}) MapFault) → said map_told a ≡ said map_told b → a ≡ b
-same_said (Ok x) (Ok y) e = refl
-same_said (Ok x) (Err g) e = absurd (not_both tt (map_told g) e)
-same_said (Err f) (Ok y) e = absurd (not_both tt (map_told f) (sym e))
-same_said (Err f) (Err g) e = let told : map_told f ≡ map_told g = cc in ap Err (sym (map_fault_told f) ∙ ap map_fault told ∙ map_fault_told g)
-
-one_connecting : (m : Network) (x : Link) (r r' : Linked) (m₁ m₂ : Network) → Connects m x r m₁ → Connects m x r' m₂ → (r ≡ r') × (m₁ ≡ m₂)
-one_connecting m x r r' m₁ m₂ h k =
-    (h.outcome ∙ ap (upward Map) (same_said h.answer k.answer (h.as_told ∙ sym k.as_told)) ∙ sym k.outcome, h.after ∙ sym k.after)
-
-one_map_line : (m : Network) (ws : List (List ℕ)) (r r' : Linked) (m₁ m₂ : Network) → MapLine m ws r m₁ → MapLine m ws r' m₂ → (r ≡ r') × (m₁ ≡ m₂)
-one_map_line m ws r r' m₁ m₂ (inl (e, (makes, is, after))) (inl (e', (makes', is', after'))) =
-    let made = one_making 1 link_fields link ws (Err e) (Err e') makes makes' in
-    let fault : e ≡ e' = cc in
-    (is ∙ ap Err fault ∙ sym is', after ∙ sym after')
-one_map_line m ws r r' m₁ m₂ (inl (e, (makes, is, after))) (inr (x, (makes', connects))) = absurd (not_both x e (one_making 1 link_fields link ws (Ok x) (Err e) makes' makes))
-one_map_line m ws r r' m₁ m₂ (inr (x, (makes, connects))) (inl (e, (makes', is, after))) = absurd (not_both x e (one_making 1 link_fields link ws (Ok x) (Err e) makes makes'))
-one_map_line m ws r r' m₁ m₂ (inr (x, (makes, connects))) (inr (x', (makes', connects'))) =
-    let made = one_making 1 link_fields link ws (Ok x) (Ok x') makes makes' in
-    let same : x ≡ x' = cc in
-    one_connecting m x r r' m₁ m₂ connects (subst (λ (y : Link). Connects m y r' m₂) (sym same) connects')
-
-one_map : (ls : List (List ℕ)) (m : Network) (n : ℕ) (out out' : List ℕ) → Maps m n ls out → Maps m n ls out' → out ≡ out'
-one_map [] m n out out' h k = one_calls (register_on m) n [] out out' h k
-one_map (l ∷ ls) m n out out' (inl (letter, (r, m₁, more, (line, text, rest)))) (inl (letter', (r', m₂, more', (line', text', rest')))) =
-    let (outcome, after) = one_map_line m (after_letter (words l)) r r' m₁ m₂ line line' in
-    let others : more ≡ more' = one_map ls m₁ (n + 1) more more' rest (subst (λ (z : Network). Maps z (n + 1) ls more') (sym after) rest') in
-    text ∙ ap (λ (z : Linked). map_printed n z ++ more) outcome ∙ ap (λ (z : List ℕ). map_printed n r' ++ z) others ∙ sym text'
-one_map (l ∷ ls) m n out out' (inl h) (inr k) = absurd (k.0 h.0)
-one_map (l ∷ ls) m n out out' (inr h) (inl k) = absurd (h.0 k.0)
-one_map (l ∷ ls) m n out out' (inr h) (inr k) = one_calls (register_on m) n (l ∷ ls) out out' h.1 k.1
-
--- ---- the whole script
-
-one_heading : (ls : List (List ℕ)) (out out' : List ℕ) → Headed ls out → Headed ls out' → out ≡ out'
-one_heading [] out out' h k = h ∙ sym k
-one_heading (l ∷ ls) out out' (inl h) (inl k) = one_map ls no_network 2 out out' h.1 k.1
-one_heading (l ∷ ls) out out' (inl h) (inr k) = absurd (k.0 h.0)
-one_heading (l ∷ ls) out out' (inr h) (inl k) = absurd (h.0 k.0)
-one_heading (l ∷ ls) out out' (inr h) (inr k) = h.1 ∙ sym k.1
-
-one_coming : (script out out' : List ℕ) → ComesTo script out → ComesTo script out' → out ≡ out'
-one_coming script out out' (inl h) (inl k) = h.1 ∙ sym k.1
-one_coming script out out' (inl h) (inr k) = absurd (omega (arith, h.0, k.0))
-one_coming script out out' (inr h) (inl k) = absurd (omega (arith, h.0, k.0))
-one_coming script out out' (inr h) (inr k) = one_heading (lines script) out out' h.1 k.1
-
 pub one_print : (script out out' : List ℕ) → Prints script out → Prints script out' → out ≡ out'
-one_print script out out' (rest, (text, comes)) (rest', (text', comes')) = text ∙ ap (λ (z : List ℕ). mark_line ++ z) (one_coming script rest rest' comes comes') ∙ sym text'
+one_print = script.one_print Calls one_calls

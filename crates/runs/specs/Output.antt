@@ -1,28 +1,15 @@
 -- The lines that a run prints.
-use Rattle.std.specs.Prelude.{ℕ, List, [], ◌∷◌, ◌++◌, codes, decimal}
+use Rattle.std.specs.Prelude.{◌≡◌, ℕ, List, [], ◌∷◌, ◌++◌, Ok, Err, Result, String, string_bytes, codes, decimal}
+use Rattle.std.specs.declared.alloc.AllocError.{AllocError}
 use Rattle.numbers.specs.declared.Unit.TheVariants.{Megawatt, Euro}
 use Rattle.numbers.specs.Printing.{shown, shown_size}
 use Rattle.session.specs.Rounds.{Logged}
+use Rattle.reading.specs.Output.{refusal_line}
 use Rattle.lines.specs.declared.faults.LineFault.{LineFault}
 use Rattle.lines.specs.Faults.{number, place}
 
--- mark and version: the first line of a script, and of what it prints
-abbrev pub mark : List ℕ
-mark = codes "CTM 1"
-
-abbrev pub mark_line : List ℕ
-mark_line = codes "CTM 1\n"
-
--- the number of the line, that of its refusal, and the place of the word at fault
-abbrev pub refusal_line : ℕ → ℕ → ℕ → List ℕ
-refusal_line n number place = codes "R " ++ (decimal n ++ (codes " " ++ (decimal number ++ (codes " " ++ (decimal place ++ codes "\n")))))
-
 abbrev pub refused_line : ℕ → LineFault → List ℕ
 refused_line n e = refusal_line n (number e) (place e)
-
--- how many orders rest
-abbrev pub quiet_line : ℕ → List ℕ
-quiet_line k = codes "Q " ++ (decimal k ++ codes "\n")
 
 abbrev pub areas_text : List ℕ → List ℕ
 areas_text [] = []
@@ -41,3 +28,9 @@ trade_line x =
 abbrev pub trade_lines : List Logged → List ℕ
 trade_lines [] = []
 trade_lines (x ∷ xs) = trade_line x ++ trade_lines xs
+
+-- a text with the trade's line added to it, where there was memory enough for both
+abbrev pub Adds : {A : Type 0} → Result (String A) AllocError → Logged → Result (String A) AllocError → Type 0
+Adds a x (Err e) = Unit {0}
+Adds (Err e) x (Ok t) = ⊥
+Adds (Ok s) x (Ok t) = string_bytes t ≡ string_bytes s ++ trade_line x

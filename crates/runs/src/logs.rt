@@ -1,39 +1,30 @@
 // The trades of a turn, noted as the text that is printed of them.
-ghost use Rattle.std.specs.Prelude.{◌≡◌, false, [], ◌++◌, string_bytes, OnOk};
-ghost use Rattle.runs.specs.Output.{trade_line};
+ghost use Rattle.std.specs.Prelude.{◌≡◌};
+ghost use Rattle.runs.specs.Output.{Adds};
 
-use crate::output::trade_text;
+use crate::output::print_trade;
 use events::events::Event;
 use events::performing::CallLog;
 use session::finishing::TradeLog;
-use std::alloc::{AllocError, Global};
+use std::alloc::AllocError;
 use trades::Trade;
 
-// A round must be run to its end even where the memory does not suffice for its text, so the log notes that and goes on.
+// A round must be run to its end even where the memory does not suffice for its text, so the log keeps that failure and goes on.
 #[derive(Drop)]
 pub(crate) struct TradeText {
-    pub(crate) heap: Global,
-    pub(crate) text: String,
-    pub(crate) full: bool,
-}
-
-impl TradeText {
-    fn push(&mut self, trade: &Trade, route: &[u32]) -> Result<(), AllocError>
-        ensures text { OnOk result (string_bytes self.new.text ≡ string_bytes self.old.text ++ trade_line (record { trade = trade.now; route = route.now })) }
-        ensures full { self.new.full ≡ self.old.full }
-    {
-        let text = trade_text(self.heap, trade, route)?;
-        self.text.push_str(text.as_str())
-    }
+    pub(crate) text: Result<String, AllocError>,
 }
 
 impl TradeLog for TradeText {
     // where there was memory enough, the trade's line is added
-    ghost notes = { λ a x b. (b.full ≡ false → (a.full ≡ false) × (string_bytes b.text ≡ string_bytes a.text ++ trade_line x)) };
+    ghost notes = { λ a x b. Adds a.text x b.text };
 
+    // as the log of `player` adds an event: a function for both would take type and step and be no shorter
     fn note(&mut self, trade: &Trade, route: &[u32]) {
-        if self.push(trade, route).is_err() {
-            self.full = true;
+        if let Ok(text) = &mut self.text {
+            if let Err(fault) = print_trade(text, trade, route) {
+                self.text = Err(fault);
+            }
         }
     }
 }

@@ -1,12 +1,14 @@
--- What a line comes to, by its letter.
-use Rattle.std.proofs.Common.{◌≡◌, ℕ, List, Some, sym, subst}
+-- What a line at hand comes to, once its letter is read.
+use Rattle.std.proofs.Common.{◌≡◌, ℕ, ◌+◌, List, Some, Option, sym, ◌∙◌, subst}
 use Rattle.capacity.specs.Meaning.{Capacity}
-use Rattle.script.specs.Fields.{first_letter, after_letter}
-use Rattle.script.specs.Runs.{Outcome, NoticeLine, RequestLine, CallLine}
+use Rattle.reading.specs.declared.reader.Reader.{Reader}
+use Rattle.reading.specs.Reading.{ahead}
+use Rattle.reading.specs.Fields.{after_letter, LetterTaken}
+use Rattle.script.specs.Runs.{Outcome, CallLine}
+use Rattle.script.specs.Running.{LineAtHand}
 
--- the line of words ls, of which the letter c is read and the words ws are left
-pub notice_by : (m m' : Capacity) (c : ℕ) (ls ws : List (List ℕ)) (r : Outcome) → Some c ≡ first_letter ls → ws ≡ after_letter ls → c ≡ 78 → NoticeLine m ws r m' → CallLine m (first_letter ls) (after_letter ls) r m'
-notice_by m m' c ls ws r e f at h = subst (λ (x : List (List ℕ)). CallLine m (first_letter ls) x r m') f (rw (sym e, at) h)
-
-pub request_by : (m m' : Capacity) (c : ℕ) (ls ws : List (List ℕ)) (r : Outcome) → Some c ≡ first_letter ls → ws ≡ after_letter ls → c ≡ 88 → RequestLine m ws r m' → CallLine m (first_letter ls) (after_letter ls) r m'
-request_by m m' c ls ws r e f at h = subst (λ (x : List (List ℕ)). CallLine m (first_letter ls) x r m') f (rw (sym e, at) h)
+pub by_letter : (m m' : Capacity) (s t : Reader) (l : Option ℕ) (c : ℕ) (r : Outcome) → LetterTaken s l t → l ≡ Some c → CallLine t.words m (Some c) (ahead t) r m' → LineAtHand m s r m'
+by_letter m m' s t l c r taken e h =
+    let counted : CallLine (s.words + 1) m (Some c) (ahead t) r m' = subst (λ (i : ℕ). CallLine i m (Some c) (ahead t) r m') (taken.counted c e) h in
+    let after : CallLine (s.words + 1) m (Some c) (after_letter (ahead s)) r m' = subst (λ (ws : List (List ℕ)). CallLine (s.words + 1) m (Some c) ws r m') taken.rest counted in
+    subst (λ (k : Option ℕ). CallLine (s.words + 1) m k (after_letter (ahead s)) r m') (sym e ∙ taken.is) after

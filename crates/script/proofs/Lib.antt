@@ -1,4 +1,2 @@
-mod Cuts
-mod Counting
 mod Letters
 mod Printing

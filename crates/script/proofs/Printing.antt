@@ -1,73 +1,22 @@
 -- What is printed line by line, put together.
-use Rattle.std.proofs.Common.{◌≡◌, ℕ, ◌+◌, ◌≤◌, Bool, true, false, List, [], ◌∷◌, ◌++◌, length, Some, Decides, sym, refl, ap, ◌∙◌, subst, inl, inr, append_assoc, append-nil, arith}
-use Rattle.std.proofs.lemmas.Bool.{true≢false}
+use Rattle.std.proofs.Common.{◌≡◌, ℕ, ◌+◌, false, List, ◌++◌, sym, refl, subst}
 use Rattle.capacity.specs.Meaning.{Capacity}
-use Rattle.capacity.specs.Network.{Network, no_network}
-use Rattle.script.specs.Text.{words}
-use Rattle.script.specs.declared.reader.Reader.{Reader}
-use Rattle.script.specs.Reading.{unread, ahead, below, words_of, Begun, NextLine}
-use Rattle.script.specs.Output.{mark}
-use Rattle.script.specs.Fields.{first_letter, after_letter, OtherLetter, LineWith, InLine}
-use Rattle.script.specs.Runs.{MapLine, CallLine, map_printed, call_printed, Calls, Maps, register_on, Headed}
-use Rattle.script.specs.Running.{FirstLine, HeaderRead, Printed, MapsBelow, CallsBelow, MapLineRun, CallLineRun, MapsRun, CallsRun, ScriptRun}
+use Rattle.reading.specs.declared.reader.Reader.{Reader}
+use Rattle.reading.specs.Text.{words}
+use Rattle.reading.specs.Reading.{ahead, NextLine}
+use Rattle.reading.specs.Fields.{first_letter, after_letter}
+use Rattle.reading.specs.Running.{Printed, CallsBelow}
+use Rattle.reading.proofs.Printing.{printed_on, all_printed, OneLine}
+use Rattle.script.specs.Runs.{CallLine, call_printed, Calls}
+use Rattle.script.specs.Running.{CallLineRun}
 
-some_same : (x y : List ℕ) → Some x ≡ Some y → x ≡ y
-some_same x y e = cc
+-- one more line of calls, at hand at t and carried out at u
+pub call_more : (P : List ℕ → Type 0) (m m' : Capacity) (s t u : Reader) (a b c : List ℕ) → Printed P (CallsBelow Calls m s) a b → OneLine s t u → CallLineRun m t b m' c → Printed P (CallsBelow Calls m' u) a c
+call_more P m m' s t u a b c so one (r, (h, p)) =
+    let at_hand : List (List ℕ) → ℕ → Type 0 = λ ws i. CallLine (i + 1) m (first_letter ws) (after_letter ws) r m' in
+    let first : at_hand (words one.line) 0 = subst (λ (ws : List (List ℕ)). at_hand ws 0) one.all (subst (λ (i : ℕ). at_hand (ahead t) i) one.unread h) in
+    printed_on P (CallsBelow Calls m s) (CallsBelow Calls m' u) a b c so
+    (call_printed t.lines r, (p, λ more k. rw (one.next, sym one.number) (r, m', more, (first, refl, rw one.stays at k))))
 
-pub none_printed : (P : List ℕ → Type 0) (out : List ℕ) → Printed P P out out
-none_printed P out = ([], (sym (append-nil out), λ more h. h))
-
-pub printed_on : (P Q R : List ℕ → Type 0) (a b c : List ℕ) → Printed P Q a b → Printed Q R b c → Printed P R a c
-printed_on P Q R a b c (x, (e, f)) (y, (g, h)) =
-    (x ++ y, (g ∙ rw (e, append_assoc), λ more r. rw append_assoc (f (y ++ more) (h more r))))
-
-pub all_printed : (P Q : List ℕ → Type 0) (a b : List ℕ) → Printed P Q a b → Q [] → (text : List ℕ) × ((b ≡ a ++ text) × P text)
-all_printed P Q a b (x, (e, f)) q = (x, (e, rw append-nil at (f [] q)))
-
--- one more M line, whose letter is read at t and whose words are read at u
-pub map_more : (P : List ℕ → Type 0) (m m' : Network) (s t u : Reader) (a b c : List ℕ) → Printed P (MapsBelow m s) a b → LineWith 77 s true t → MapLineRun m t b m' c → InLine t u → Printed P (MapsBelow m' u) a c
-map_more P m m' s t u a b c so line (r, (h, p)) (ls, ns) =
-    let l = line.0.0 in
-    let e : below s ≡ l ∷ below u = line.0.1.0 ∙ ap (λ x. l ∷ x) (sym ls) in
-    let n : t.lines ≡ s.lines + 1 = line.1 in
-    printed_on P (MapsBelow m s) (MapsBelow m' u) a b c so
-    (map_printed t.lines r, (p, λ more k. rw (e, sym n) (inl (line.0.1.1, (r, m', more, (subst (λ (x : List (List ℕ)). MapLine m x r m') line.0.1.2 h, refl, rw ns at k))))))
-
--- the map ends where another letter follows, or nothing
-map_ended : (m : Network) (n : ℕ) (ls : List (List ℕ)) (more : List ℕ) → OtherLetter 77 ls → Calls (register_on m) n ls more → Maps m n ls more
-map_ended m n [] more other h = h
-map_ended m n (l ∷ ls) more other h = inr (other, h)
-
-pub maps_done : (P : List ℕ → Type 0) (m : Network) (s t : Reader) (a b : List ℕ) → Printed P (MapsBelow m s) a b → LineWith 77 s false t → Printed P (CallsBelow (register_on m) t) a b
-maps_done P m s t a b (x, (e, f)) (kept, other) =
-    (x, (e, λ more h. f more (map_ended m (s.lines + 1) (below s) more other (rw (kept.1, kept.2) at h))))
-
--- one more line of calls, at hand at t and read at u
-pub call_more : (P : List ℕ → Type 0) (m m' : Capacity) (s t u : Reader) (a b c : List ℕ) → Printed P (CallsBelow m s) a b → NextLine s true t → CallLineRun m t b m' c → InLine t u → Printed P (CallsBelow m' u) a c
-call_more P m m' s t u a b c so line (r, (h, p)) (ls, ns) =
-    let l = line.0.0 in
-    let e : below s ≡ l ∷ below u = line.0.1.0 ∙ ap (λ x. l ∷ x) (sym ls) in
-    let ws : ahead t ≡ words l = ap words_of line.0.1.1 in
-    let n : t.lines ≡ s.lines + 1 = line.1 in
-    printed_on P (CallsBelow m s) (CallsBelow m' u) a b c so
-    (call_printed t.lines r, (p, λ more k. rw (e, sym n) (r, m', more, (subst (λ (x : List (List ℕ)). CallLine m (first_letter x) (after_letter x) r m') ws h, refl, rw ns at k))))
-
-pub calls_done : (P : List ℕ → Type 0) (m : Capacity) (s t : Reader) (a b : List ℕ) → Printed P (CallsBelow m s) a b → NextLine s false t → (text : List ℕ) × ((b ≡ a ++ text) × P text)
-calls_done P m s t a b so (none, kept) = all_printed P (CallsBelow m s) a b so (rw none refl)
-
--- whether the line at hand, which is the first, is mark and version
-pub header_read : (s t : Reader) (line : List ℕ) (r : Bool) → NextLine s true t → Some line ≡ unread t → Decides r (line ≡ mark) → HeaderRead s r t
-header_read s t line true first e d = rw first.0.1.0 ((sym (some_same line first.0.0 (e ∙ first.0.1.1)) ∙ d.0 refl, refl), first.1)
-header_read s t line false first e d = rw first.0.1.0 (λ m. true≢false (sym (d.1 (some_same line first.0.0 (e ∙ first.0.1.1) ∙ m))))
-
-headed : (ls ls' : List (List ℕ)) (out : List ℕ) → FirstLine ls true ls' → Maps no_network 2 ls' out → Headed ls out
-headed [] ls' out h k = absurd h
-headed (l ∷ ls) ls' out h k = inl (h.0, subst (λ (x : List (List ℕ)). Maps no_network 2 x out) h.1 k)
-
--- a script that is not too long, with its header read at h, its map at t, and its calls after that
-pub script_run : (script : List ℕ) (s h t : Reader) (m : Network) (register : Capacity) (a b c : List ℕ) → length script ≤ 65536 → Begun script s → HeaderRead s true h → MapsRun h a m t b → register ≡ register_on m → CallsRun register t b c → ScriptRun script a c
-script_run script s h t m register a b c short begun (first, n) (x, (e, f)) on (y, (g, k)) =
-    let two : h.lines + 1 ≡ 2 = omega (arith, begun.no_line) in
-    let calls : CallsBelow (register_on m) t y = subst (λ (z : Capacity). CallsBelow z t y) on k in
-    let maps : Maps no_network 2 (below h) (x ++ y) = subst (λ (z : ℕ). Maps no_network z (below h) (x ++ y)) two (f y calls) in
-    (x ++ y, (g ∙ rw (e, append_assoc), inr (short, rw (sym (begun.all_below short)) (headed (below s) (below h) (x ++ y) first maps))))
+pub calls_done : (P : List ℕ → Type 0) (m : Capacity) (s t : Reader) (a b : List ℕ) → Printed P (CallsBelow Calls m s) a b → NextLine s false t → (text : List ℕ) × ((b ≡ a ++ text) × P text)
+calls_done P m s t a b so (none, kept) = all_printed P (CallsBelow Calls m s) a b so (rw none refl)

@@ -1,19 +1,14 @@
 -- The number of each refusal of a line, and the place of the word at fault.
-use Rattle.std.specs.Prelude.{ℕ}
-use Rattle.capacity.specs.Faults.{told, map_told}
-use Rattle.numbers.specs.Reading.{fault_number}
+use Rattle.std.specs.Prelude.{ℕ, None, Option}
+use Rattle.capacity.specs.Faults.{told}
+use Rattle.reading.specs.Faults.{word_number, word_place}
 use Rattle.script.specs.declared.faults.LineFault.{LineFault}
-use Rattle.script.specs.declared.faults.LineFault.TheVariants.{Form, Word, Map, Register}
+use Rattle.script.specs.declared.faults.LineFault.TheVariants.{Word, Register}
 
 abbrev pub number : LineFault → ℕ
-number Form = 17
-number (Word i f) = fault_number f
-number (Map f) = (map_told f).number
+number (Word f) = word_number f
 number (Register f) = (told f).number
 
--- the letter is the first word; 0 where no word is at fault
-abbrev pub place : LineFault → ℕ
-place Form = 0
-place (Word i f) = i
-place (Map f) = 0
-place (Register f) = 0
+abbrev pub place : LineFault → Option ℕ
+place (Word f) = word_place f
+place (Register f) = None

@@ -1,7 +1,3 @@
-pub mod Text
-pub mod Reading
 pub mod Faults
-pub mod Fields
-pub mod Output
 pub mod Runs
 pub mod Running

@@ -1,46 +1,14 @@
 -- What the parts of a run have read and printed: for the contracts of its private functions.
-use Rattle.std.specs.Prelude.{◌≡◌, ℕ, ◌+◌, Bool, true, false, List, [], ◌∷◌, ◌++◌}
+use Rattle.std.specs.Prelude.{◌≡◌, ℕ, ◌+◌, List, ◌++◌}
 use Rattle.capacity.specs.Meaning.{Capacity}
-use Rattle.capacity.specs.Network.{Network, no_network}
-use Rattle.script.specs.declared.reader.Reader.{Reader}
-use Rattle.script.specs.Reading.{ahead, below}
-use Rattle.script.specs.Fields.{first_letter, after_letter}
-use Rattle.script.specs.Output.{mark}
-use Rattle.script.specs.Runs.{Outcome, MapLine, CallLine, map_printed, call_printed, Calls, Maps, register_on, ComesTo}
+use Rattle.reading.specs.declared.reader.Reader.{Reader}
+use Rattle.reading.specs.Reading.{ahead}
+use Rattle.reading.specs.Fields.{first_letter, after_letter}
+use Rattle.script.specs.Runs.{Outcome, CallLine, call_printed}
 
--- the first line is mark and version, and is read
-abbrev pub FirstLine : List (List ℕ) → Bool → List (List ℕ) → Type 0
-FirstLine [] true ls = ⊥
-FirstLine [] false ls = Unit {0}
-FirstLine (l ∷ ls₀) true ls = (l ≡ mark) × (ls ≡ ls₀)
-FirstLine (l ∷ ls₀) false ls = l ≡ mark → ⊥
-
-abbrev pub HeaderRead : Reader → Bool → Reader → Type 0
-HeaderRead s true t = FirstLine (below s) true (below t) × (t.lines ≡ s.lines + 1)
-HeaderRead s false t = FirstLine (below s) false []
-
--- some text is printed, and with what Q allows after it is what P allows
-abbrev pub Printed : (List ℕ → Type 0) → (List ℕ → Type 0) → List ℕ → List ℕ → Type 0
-Printed P Q out out' = (text : List ℕ) × ((out' ≡ out ++ text) × ((more : List ℕ) → Q more → P (text ++ more)))
-
--- what the lines after the line at hand may print
-abbrev pub MapsBelow : Network → Reader → List ℕ → Type 0
-MapsBelow m s = Maps m (s.lines + 1) (below s)
-
-abbrev pub CallsBelow : Capacity → Reader → List ℕ → Type 0
-CallsBelow m s = Calls m (s.lines + 1) (below s)
-
-abbrev pub MapLineRun : Network → Reader → List ℕ → Network → List ℕ → Type 0
-MapLineRun m s out m' out' = (r : Outcome) × (MapLine m (ahead s) r m' × (out' ≡ out ++ map_printed s.lines r))
+-- the line at hand, of which s.words words are read, is carried out
+abbrev pub LineAtHand : Capacity → Reader → Outcome → Capacity → Type 0
+LineAtHand m s r m' = CallLine (s.words + 1) m (first_letter (ahead s)) (after_letter (ahead s)) r m'
 
 abbrev pub CallLineRun : Capacity → Reader → List ℕ → Capacity → List ℕ → Type 0
-CallLineRun m s out m' out' = (r : Outcome) × (CallLine m (first_letter (ahead s)) (after_letter (ahead s)) r m' × (out' ≡ out ++ call_printed s.lines r))
-
-abbrev pub MapsRun : Reader → List ℕ → Network → Reader → List ℕ → Type 0
-MapsRun s out m t out' = Printed (MapsBelow no_network s) (CallsBelow (register_on m) t) out out'
-
-abbrev pub CallsRun : Capacity → Reader → List ℕ → List ℕ → Type 0
-CallsRun m s out out' = (text : List ℕ) × ((out' ≡ out ++ text) × CallsBelow m s text)
-
-abbrev pub ScriptRun : List ℕ → List ℕ → List ℕ → Type 0
-ScriptRun script out out' = (text : List ℕ) × ((out' ≡ out ++ text) × ComesTo script text)
+CallLineRun m s out m' out' = (r : Outcome) × (LineAtHand m s r m' × (out' ≡ out ++ call_printed s.lines r))

@@ -1,53 +1,45 @@
-// Why a line of a script is refused.
+// Why a call line of a script is refused.
 ghost use Rattle.std.specs.Prelude.{◌≡◌};
 ghost use Rattle.script.specs.Faults.{number, place};
-ghost use Rattle.script.specs.declared.faults.LineFault.TheVariants.{Map, Register};
+ghost use Rattle.script.specs.declared.faults.LineFault.TheVariants.{Word, Register};
 
-use capacity::faults::{MapFault, RegisterFault};
-use numbers::NumberFault;
+use capacity::faults::RegisterFault;
+use reading::faults::{Refusal, WordFault};
 
-// A fault of the line itself, or that of what it asked for, whole.
+// A fault of the line itself, or that of what it asked for, whole. An enum of its own: `From<F>` of a generic one would overlap
+// that of `WordFault`, and `?` needs both.
 #[derive(Clone, Copy)]
 pub enum LineFault {
-    // the header, the letter, the count of words, M's place or the script's length is wrong
-    Form,
-    // the word at this place, the letter's being 1, is no number of its unit
-    Word { place: u32, fault: NumberFault },
-    // the map takes no such connector
-    Map(MapFault),
+    Word(WordFault),
     // the register refuses the notice or the request
     Register(RegisterFault),
 }
 
-impl LineFault {
-    // The refusal's number.
-    pub fn number(&self) -> u32
-        ensures { result ≡ number self.now }
-    {
+impl Refusal for LineFault {
+    ghost number = { number };
+
+    ghost place = { place };
+
+    fn number(&self) -> u32 {
         match self {
-            LineFault::Form => 17,
-            LineFault::Word { fault, .. } => fault.number(),
-            LineFault::Map(fault) => fault.number(),
+            LineFault::Word(fault) => fault.number(),
             LineFault::Register(fault) => fault.number(),
         }
     }
 
-    // The place of the faulty word, 0 where no word is at fault.
-    pub fn place(&self) -> u32
-        ensures { result ≡ place self.now }
-    {
+    fn place(&self) -> Option<u32> {
         match self {
-            LineFault::Word { place, .. } => *place,
-            _ => 0,
+            LineFault::Word(fault) => fault.place(),
+            LineFault::Register(_) => None,
         }
     }
 }
 
-impl From<MapFault> for LineFault {
-    ghost from_gives = { λ m l. l ≡ Map m };
+impl From<WordFault> for LineFault {
+    ghost from_gives = { λ f l. l ≡ Word f };
 
-    fn from(fault: MapFault) -> LineFault {
-        LineFault::Map(fault)
+    fn from(fault: WordFault) -> LineFault {
+        LineFault::Word(fault)
     }
 }
 

@@ -1,15 +1,16 @@
 -- What a deal takes of the register can be taken, since the orders of a book show some and not too much.
-use Rattle.std.proofs.Common.{◌≡◌, ℕ, zero, suc, ◌<◌, ◌≤◌, min, Bool, true, ◌&&◌, ltb, leb, List, [], ◌∷◌, length, pos, sym, ◌∙◌, arith}
+use Rattle.std.proofs.Common.{◌≡◌, ℕ, ◌<◌, ◌≤◌, min, Bool, true, ◌&&◌, ltb, leb, List, length, sym, ◌∙◌, arith}
 use mathlib.Core.Logic.{∥∥₁_elim}
 use base.Stored.{Coded-set, coded_bool, coded_list}
 use Rattle.std.specs.List.{AllByRecursion}
+use Rattle.std.proofs.ByRecursion.{All-get_or}
 use Rattle.std.proofs.lemmas.Bool.{ltb-true, leb-true, lt-ltb, le-leb, and_from, and_parts}
 use Rattle.book.specs.contracts.rows.Order.{the_row as order_row}
 use Rattle.book.specs.declared.rows.Order.{Order}
 use Rattle.book.specs.declared.rows.Kind.{Kind}
 use Rattle.book.specs.declared.rows.Kind.TheVariants.{Non, Ioc, Ice}
 use Rattle.book.specs.Orderly.{Parted, Fit, Orderly}
-use Rattle.book.specs.Ranks.{order_at}
+use Rattle.book.specs.Ranks.{blank, order_at}
 use Rattle.capacity.specs.Meaning.{Capacity}
 use Rattle.flows.specs.Flows.{OpenIn, least_flow, Carries}
 use Rattle.flows.proofs.Least.{least_is, least_carries}
@@ -19,19 +20,19 @@ use Rattle.trades.specs.declared.trade.Trade.{Trade}
 use Rattle.trades.specs.Deals.{traded_contract, Deals}
 use Rattle.trades.proofs.Dealing.{executable}
 
--- what an order of a book shows
+-- what an order of a book shows is open, and is some and not too much
 shown_few : (k : Kind) (o : Order) → Parted k o → o.shown ≤ o.«open»
 shown_few Non o h = omega (arith, h)
 shown_few Ioc o h = omega (arith, h)
 shown_few Ice o h = h.within
 
-shown_range : (os : List Order) (i : ℕ) → AllByRecursion Fit os → i < length os → (1 ≤ (order_at os i).shown) × ((order_at os i).shown ≤ 9999)
-shown_range [] i h l = absurd (omega arith)
-shown_range (o ∷ os) zero h l =
-    let some = ltb-true 0 o.shown h.0.0 in
-    let few = shown_few o.kind o h.0.1.1 in
-    (omega arith, omega (arith, h.0.1.2))
-shown_range (o ∷ os) (suc i) h l = shown_range os i h.1 (omega arith)
+pub shown_range : (os : List Order) (i : ℕ) → AllByRecursion Fit os → i < length os → (1 ≤ (order_at os i).shown) × ((order_at os i).shown ≤ 9999) × ((order_at os i).shown ≤ (order_at os i).«open»)
+shown_range os i h l =
+    let o = order_at os i in
+    let fit : Fit o = All-get_or Fit os i blank l h in
+    let some = ltb-true 0 o.shown fit.0 in
+    let few = shown_few o.kind o fit.1.1 in
+    (omega arith, omega (arith, fit.1.2), few)
 
 -- a number from 1 to 99,999, as a test
 abbrev in_range : ℕ → Bool
@@ -44,9 +45,6 @@ most_range os i j h li lj =
     let n = min (order_at os i).shown (order_at os j).shown in
     and_from (ltb 0 n) (leb n 99999) (lt-ltb 0 n (omega (arith, a.0, b.0))) (le-leb n 99999 (omega (arith, a.1, b.1)))
 
-pos_same : (a b : ℕ) → pos a ≡ pos b → a ≡ b
-pos_same a b e = cc
-
 -- the quantity of a deal can be carried along its route
 pub deal_carries : (m : Capacity) (os : List Order) (r : Round) (x : Trade) (xs : List ℕ) → ∥ Orderly os ∥₁ → (d : Deals m os r x xs) → Carries m x.contract (order_at os d.j).area (order_at os d.i).area (min (order_at os d.i).shown (order_at os d.j).shown) x.quantity xs
 deal_carries m os r x xs t d =
@@ -56,7 +54,7 @@ deal_carries m os r x xs t d =
     let e = executable (OpenIn m c) r os d.i d.j d.chosen.pair in
     let ok : in_range n ≡ true = ∥∥₁_elim t (Coded-set coded_bool _ _) (λ h. most_range os d.i d.j h e.buy_in e.sell_in) in
     let both = and_parts (ltb 0 n) (leb n 99999) ok in
-    let q : x.quantity ≡ least_flow m c n xs = pos_same _ _ (d.quantity ∙ sym (least_is m c n _ _ xs p)) in
+    let q : x.quantity ≡ least_flow m c n xs = cc (d.quantity ∙ sym (least_is m c n _ _ xs p)) in
     rw d.contract (least_carries m c n x.quantity _ _ xs q p (ltb-true 0 n both.0) (leb-true n 99999 both.1))
 
 -- an equation of books, from what is known of an orderly one

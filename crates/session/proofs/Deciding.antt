@@ -1,65 +1,48 @@
 -- How the answer to some tests gives the answer to a longer list of them.
-use Rattle.std.proofs.Common.{◌≡◌, ℕ, Bool, true, false, cond, not, List, [], ◌∷◌, ◌++◌, is_some, Some, None, Ok, Err, Option, refl, ap, ◌∙◌, arith}
+use Rattle.std.proofs.Common.{◌≡◌, ℕ, Bool, true, false, List, [], ◌∷◌, ◌++◌, is_some, Some, None, Ok, Err, Option, refl}
 use Rattle.capacity.specs.Tests.{answered}
-use Rattle.capacity.specs.Faults as register
 use Rattle.capacity.proofs.Passes.{Passes, answered_passes}
 use Rattle.book.specs.declared.faults.BookFault.{BookFault}
 use Rattle.book.specs.declared.faults.BookFault.TheVariants as book
 use Rattle.book.specs.Refusals.{first_refusing, fault_number}
 use Rattle.book.specs.Places.{place, numbered}
 use Rattle.book.specs.Terms.{refusal, size_tests, slice_tests}
-use Rattle.session.specs.Faults.{Refusal, own, registers, told, risen}
+use Rattle.session.specs.Faults.{Refusal, own, told, risen}
 use Rattle.session.specs.declared.entries.Entry.{Entry}
 use Rattle.session.specs.State.{State}
 use Rattle.session.specs.Calls.{Test, raised, entry_checks, taken_test}
 
 -- what the first tests refuse stays refused
 pub refused_on : {T : Type 0} (xs ys : List (Bool × T)) (e : T) → Err e ≡ answered xs → Err e ≡ answered (xs ++ ys)
-refused_on [] ys e h = let z : ◌≡◌ {A = ℕ} 0 1 = cc in absurd (omega arith)
+refused_on [] ys e h = absurd (cc)
 refused_on ((true, x) ∷ xs) ys e h = h
 refused_on ((false, x) ∷ xs) ys e h = refused_on xs ys e h
 
 -- where they refuse nothing, the rest decides
 pub passed_on : {T : Type 0} (xs ys : List (Bool × T)) → Ok tt ≡ answered xs → answered ys ≡ answered (xs ++ ys)
 passed_on [] ys h = refl
-passed_on ((true, x) ∷ xs) ys h = let z : ◌≡◌ {A = ℕ} 0 1 = cc in absurd (omega arith)
+passed_on ((true, x) ∷ xs) ys h = absurd (cc)
 passed_on ((false, x) ∷ xs) ys h = passed_on xs ys h
 
-pub both_passed : {T : Type 0} (xs ys : List (Bool × T)) → Ok tt ≡ answered xs → Ok tt ≡ answered ys → Ok tt ≡ answered (xs ++ ys)
-both_passed xs ys p q = q ∙ passed_on xs ys p
-
 pub raised_refused : {A : Type 0} (f : A → Refusal) (ts : List (Bool × A)) (e : A) → Err e ≡ answered ts → Err (f e) ≡ answered (raised f ts)
-raised_refused f [] e h = let z : ◌≡◌ {A = ℕ} 0 1 = cc in absurd (omega arith)
-raised_refused f ((true, x) ∷ ts) e h = ap (λ y. Err (f y)) (cc)
+raised_refused f [] e h = absurd (cc)
+raised_refused f ((true, x) ∷ ts) e h = cc
 raised_refused f ((false, x) ∷ ts) e h = raised_refused f ts e h
 
 pub raised_passed : {A : Type 0} (f : A → Refusal) (ts : List (Bool × A)) → Ok tt ≡ answered ts → Ok tt ≡ answered (raised f ts)
 raised_passed f [] h = refl
-raised_passed f ((true, x) ∷ ts) h = let z : ◌≡◌ {A = ℕ} 0 1 = cc in absurd (omega arith)
+raised_passed f ((true, x) ∷ ts) h = absurd (cc)
 raised_passed f ((false, x) ∷ ts) h = raised_passed f ts h
-
--- the session's two tests passed, and then the register's answer
-pub by_register_refused : (x y : Test) (ts : List (Bool × register.Refusal)) (e : register.Refusal) → Ok tt ≡ answered (x ∷ []) → Ok tt ≡ answered (y ∷ []) → Err e ≡ answered ts → Err (registers e) ≡ answered (x ∷ y ∷ raised registers ts)
-by_register_refused x y ts e p q h =
-    raised_refused registers ts e h
-    ∙ passed_on (y ∷ []) (raised registers ts) q
-    ∙ passed_on (x ∷ []) (y ∷ raised registers ts) p
-
-pub by_register_passed : (x y : Test) (ts : List (Bool × register.Refusal)) → Ok tt ≡ answered (x ∷ []) → Ok tt ≡ answered (y ∷ []) → Ok tt ≡ answered ts → Ok tt ≡ answered (x ∷ y ∷ raised registers ts)
-by_register_passed x y ts p q h =
-    raised_passed registers ts h
-    ∙ passed_on (y ∷ []) (raised registers ts) q
-    ∙ passed_on (x ∷ []) (y ∷ raised registers ts) p
 
 -- the book's tests, by their numbers
 pub numbers_refused : (ts : List (Bool × ℕ)) (n : ℕ) → Some n ≡ first_refusing ts → Err (own n) ≡ answered (raised own ts)
-numbers_refused [] n h = let z : ◌≡◌ {A = ℕ} 0 1 = cc in absurd (omega arith)
-numbers_refused ((true, x) ∷ ts) n h = ap (λ y. Err (own y)) (cc)
+numbers_refused [] n h = absurd (cc)
+numbers_refused ((true, x) ∷ ts) n h = cc
 numbers_refused ((false, x) ∷ ts) n h = numbers_refused ts n h
 
 pub numbers_passed : (ts : List (Bool × ℕ)) → None ≡ first_refusing ts → Ok tt ≡ answered (raised own ts)
 numbers_passed [] h = refl
-numbers_passed ((true, x) ∷ ts) h = let z : ◌≡◌ {A = ℕ} 0 1 = cc in absurd (omega arith)
+numbers_passed ((true, x) ∷ ts) h = absurd (cc)
 numbers_passed ((false, x) ∷ ts) h = numbers_passed ts h
 
 pub passes_numbers : (ts : List (Bool × ℕ)) (us : List Test) → Passes (raised own ts ++ us) → (first_refusing ts ≡ None) × Passes us
@@ -72,18 +55,9 @@ risen_told book.Quantity = refl
 risen_told book.Slices = refl
 risen_told book.Full = refl
 
--- what a test of one condition says of the list that stands
-pub room : {X : Type 0} (b : Bool) (n : ℕ) (x y : X) → None ≡ first_refusing ((not b, n) ∷ []) → cond b x y ≡ x
-room true n x y h = refl
-room false n x y h = let z : ◌≡◌ {A = ℕ} 0 1 = cc in absurd (omega arith)
-
-pub no_room : {X : Type 0} (b : Bool) (n k : ℕ) (x y : X) → Some k ≡ first_refusing ((not b, n) ∷ []) → cond b x y ≡ y
-no_room true n k x y h = let z : ◌≡◌ {A = ℕ} 0 1 = cc in absurd (omega arith)
-no_room false n k x y h = refl
-
 pub none_is : {X : Type 0} (o : Option X) → is_some o ≡ false → o ≡ None
 none_is None h = refl
-none_is (Some x) h = let z : ◌≡◌ {A = ℕ} 0 1 = cc in absurd (omega arith)
+none_is (Some x) h = absurd (cc)
 
 -- an entry that no test refuses has terms that none refuses, and a number that no order has
 pub entry_passed : (s : State) (p : ℕ) (e : Entry) → Ok tt ≡ answered (entry_checks s p e) → (refusal e.terms ≡ None) × (place (numbered e.number) s.book ≡ None)

@@ -2,12 +2,9 @@
 use Rattle.std.proofs.Common.{◌≡◌, ℕ, zero, suc, ◌+◌, ◌<◌, ◌≤◌, Bool, true, false, cond, ◌||◌, eqb, ltb, List, [], ◌∷◌, ◌++◌, map, length, filter, sym, refl, ap, inl, inr, arith, eq-eqb}
 use mathlib.Core.Logic.{∥∥₁_elim}
 use base.Stored.{Coded-set, coded_bool}
-use Rattle.std.specs.List.{AllByRecursion}
 use Rattle.std.proofs.lemmas.Bool.{ltb-true, lt-ltb, cases_Bool, and_left, not_from_true}
 use Rattle.book.specs.declared.rows.Order.{Order}
-use Rattle.book.specs.declared.rows.Kind.{Kind}
-use Rattle.book.specs.declared.rows.Kind.TheVariants.{Non, Ioc, Ice}
-use Rattle.book.specs.Orderly.{Parted, Fit, Orderly}
+use Rattle.book.specs.Orderly.{Orderly}
 use Rattle.book.specs.Orders.{lessened, next_slice, shows, run_out}
 use Rattle.book.specs.Ranks.{order_at}
 use Rattle.book.specs.Trades.{struck, settled}
@@ -17,7 +14,7 @@ use Rattle.matching.specs.declared.round.Round.{Round}
 use Rattle.trades.specs.declared.trade.Trade.{Trade}
 use Rattle.trades.specs.Deals.{traded_contract, Deals}
 use Rattle.trades.proofs.Dealing.{executable}
-use Rattle.session.proofs.Carrying.{deal_carries}
+use Rattle.session.proofs.Carrying.{shown_range, deal_carries}
 
 -- what is open in all
 abbrev pub total_open : List Order → ℕ
@@ -70,23 +67,12 @@ struck_falls b s q (suc i) (o ∷ os) l e h k =
     let f = lowered (eqb o.number b || eqb o.number s) q o in
     omega arith
 
--- every order of a book has some open
-open_few : (k : Kind) (o : Order) → Parted k o → o.shown ≤ o.«open»
-open_few Non o h = omega (arith, h)
-open_few Ioc o h = omega (arith, h)
-open_few Ice o h = h.within
-
-open_some : (os : List Order) (i : ℕ) → AllByRecursion Fit os → i < length os → 1 ≤ (order_at os i).«open»
-open_some [] i h l = absurd (omega arith)
-open_some (o ∷ os) zero h l = omega (arith, ltb-true 0 o.shown h.0.0, open_few o.kind o h.0.1.1)
-open_some (o ∷ os) (suc i) h l = open_some os i h.1 (omega arith)
-
 -- a deal lowers what is open in all
 pub deal_falls : (m : Capacity) (os : List Order) (r : Round) (x : Trade) (xs : List ℕ) → ∥ Orderly os ∥₁ → Deals m os r x xs → total_open (settled x.buy x.sell x.quantity os) < total_open os
 deal_falls m os r x xs t d =
     let e = executable (OpenIn m (traded_contract r)) r os d.i d.j d.chosen.pair in
     let some = (deal_carries m os r x xs t d).some in
-    let here : ltb 0 (order_at os d.i).«open» ≡ true = ∥∥₁_elim t (Coded-set coded_bool _ _) (λ h. lt-ltb 0 _ (omega (arith, open_some os d.i h.fit e.buy_in))) in
+    let here : ltb 0 (order_at os d.i).«open» ≡ true = ∥∥₁_elim t (Coded-set coded_bool _ _) (λ h. lt-ltb 0 _ (let shown = shown_range os d.i h.fit e.buy_in in omega arith)) in
     let k = ltb-true 0 (order_at os d.i).«open» here in
     let falls = struck_falls x.buy x.sell x.quantity d.i os e.buy_in d.buy some (omega (arith, k)) in
     omega (arith, falls, total_renewed (map (struck x.buy x.sell x.quantity) os))

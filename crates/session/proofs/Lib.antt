@@ -1,5 +1,6 @@
 -- Lemmas of the proofs.
 pub mod Deciding
+pub mod Asking
 pub mod Changing
 pub mod Flags
 pub mod Carrying

@@ -1,6 +1,8 @@
 -- How each call is answered, and the state after it: the refusals are a list of tests, of which the first that applies counts.
-use Rattle.std.specs.Prelude.{ℕ, Bool, false, cond, not, ◌||◌, List, [], ◌∷◌, ◌++◌, length, ℤ, is_some, Some, None, Ok, Err, filter, Option, Result, ◌==◌, nat_lt}
-use Rattle.capacity.specs.Tests.{answered, resulting}
+use Rattle.std.specs.Prelude.{◌≡◌, ℕ, Bool, false, cond, not, ◌||◌, List, [], ◌∷◌, ◌++◌, length, ℤ, is_some, Some, None, Ok, Err, filter, Option, Result, ◌==◌, nat_lt}
+use Rattle.capacity.specs.declared.faults.RegisterFault.{RegisterFault}
+use Rattle.capacity.specs.Faults as register
+use Rattle.capacity.specs.Tests.{answered, resulting, said}
 use Rattle.capacity.specs.Meaning.{Capacity, taken, noticed}
 use Rattle.capacity.specs.Answers.{take_tests, notice_tests}
 use Rattle.capacity.specs.declared.figures.Figures.{Figures}
@@ -12,7 +14,7 @@ use Rattle.book.specs.Ranks.{order_at}
 use Rattle.book.specs.Terms.{size_tests, bounds_tests, slice_tests, ill_sliced}
 use Rattle.matching.specs.declared.round.Round.TheVariants.{Regular, Batch}
 use Rattle.session.specs.declared.entries.Entry.{Entry}
-use Rattle.session.specs.declared.phases.Phase.TheVariants.{Under}
+use Rattle.session.specs.declared.faults.SessionFault.{SessionFault}
 use Rattle.session.specs.declared.passes.QuietPass.{QuietPass}
 use Rattle.session.specs.declared.passes.RoundPass.{RoundPass}
 use Rattle.session.specs.declared.passes.Refused.{Refused}
@@ -38,6 +40,11 @@ raised f (t ∷ ts) = (t.0, f t.1) ∷ raised f ts
 abbrev pub answer : {P Q : Type 0} → Result P (Refused Q) → Result (Unit {0}) Refusal
 answer (Ok p) = Ok tt
 answer (Err e) = Err (told e.fault)
+
+-- what an accepted call gave, beside its pass; a refused one hands the pass back
+abbrev pub with_pass : {P T : Type 0} → Result T SessionFault → P → Result (T × P) (Refused P)
+with_pass (Ok x) p = Ok (x, p)
+with_pass (Err f) p = Err (record { fault = f; pass = p })
 
 -- the number on the pass that came back, of a call that begins a round and of one that does not
 abbrev pub begun : Result RoundPass (Refused QuietPass) → ℕ
@@ -80,17 +87,29 @@ full_test s = (not (nat_lt (length s.book) 128), own 10)
 
 -- a batch round under way, over another capacity
 abbrev pub in_batch : State → ℕ → Capacity → State
-in_batch s c m = record { number = s.number; phase = Under (Batch c); closed = s.closed; book = s.book; capacity = m }
+in_batch s c m = record { number = s.number; round = Some (Batch c); closed = s.closed; book = s.book; capacity = m }
+
+-- the tests of a call that the register answers by the tests ts
+abbrev pub asking_tests : State → ℕ → ℕ → List (Bool × register.Refusal) → List Test
+asking_tests s p c ts = pass_test s p ∷ closed_test s c ∷ raised registers ts
+
+-- what such a call answers and leaves: a batch round, over the capacity m
+abbrev pub Asked : Result (Unit {0}) Refusal → State → State → ℕ → ℕ → List (Bool × register.Refusal) → Capacity → Type 0
+Asked a t s p c ts m = (a ≡ answered (asking_tests s p c ts)) × (t ≡ resulting (asking_tests s p c ts) s (in_batch s c m))
+
+-- a call answers by the tests ts, and where none applies leads to m: calls says what it gives, and leaves, of a register
+abbrev pub AnswersBy : {R : Type 0} → (R → Capacity) → (R → Result (Unit {0}) RegisterFault → R → Type 0) → R → List (Bool × register.Refusal) → Capacity → Type 0
+AnswersBy {R} meaning calls r ts m = (a : Result (Unit {0}) RegisterFault) (r' : R) → calls r a r' → (said register.told a ≡ answered ts) × (meaning r' ≡ resulting ts (meaning r) m)
 
 abbrev pub request_tests : State → ℕ → ℕ → ℕ → ℕ → ℕ → List Test
-request_tests s p c a b q = pass_test s p ∷ closed_test s c ∷ raised registers (take_tests s.capacity c a b q)
+request_tests s p c a b q = asking_tests s p c (take_tests s.capacity c a b q)
 
 -- a request takes a quantity on one connector
 abbrev pub requesting : State → ℕ → ℕ → ℕ → ℕ → ℕ → Result (Unit {0}) Refusal × State
 requesting s p c a b q = decided (request_tests s p c a b q) s (in_batch s c (taken s.capacity c a b q))
 
 abbrev pub notifying_tests : State → ℕ → ℕ → ℕ → ℕ → Figures → List Test
-notifying_tests s p c a b f = pass_test s p ∷ closed_test s c ∷ raised registers (notice_tests s.capacity c a b f)
+notifying_tests s p c a b f = asking_tests s p c (notice_tests s.capacity c a b f)
 
 -- a notice goes to the register
 abbrev pub noticing : State → ℕ → ℕ → ℕ → ℕ → Figures → Result (Unit {0}) Refusal × State
@@ -108,7 +127,7 @@ withdraw_tests s p n m = pass_test s p ∷ unknown_test s n m ∷ []
 abbrev pub withdrawing : State → ℕ → ℕ → ℕ → Result (Unit {0}) Refusal × State
 withdrawing s p n m =
     decided (withdraw_tests s p n m) s
-    (record { number = s.number; phase = s.phase; closed = s.closed; book = less s.book (place (numbered_of n m) s.book); capacity = s.capacity })
+    (record { number = s.number; round = s.round; closed = s.closed; book = less s.book (place (numbered_of n m) s.book); capacity = s.capacity })
 
 -- an answer that gives x where it accepts
 abbrev pub giving : {X T : Type 0} → X → Result (Unit {0}) T → Result X T
@@ -123,7 +142,7 @@ abbrev pub closing : State → ℕ → ℕ → Result ℕ Refusal × State
 closing s p c = (
   giving (length (filter (of_contract c) s.book)) (answered (close_tests s p c)),
   resulting (close_tests s p c) s
-      (record { number = s.number; phase = s.phase; closed = λ k. (k == c) || s.closed k; book = filter (not_of_contract c) s.book; capacity = s.capacity }),
+      (record { number = s.number; round = s.round; closed = λ k. (k == c) || s.closed k; book = filter (not_of_contract c) s.book; capacity = s.capacity }),
 )
 
 -- the tests of an entry, but for a full book
@@ -137,27 +156,19 @@ entry_checks s p e =
     ++ taken_test s e.number
     ∷ []
 
--- an entry makes the order newest and begins a regular round with it as incoming
-abbrev pub entering : State → ℕ → Entry → Result (Unit {0}) Refusal × State
-entering s p e =
-    decided (entry_checks s p e ++ full_test s ∷ []) s
-    (record {
-      number = s.number;
-      phase = Under (Regular e.contract e.number);
-      closed = s.closed;
-      book = s.book ++ entered e.number e.member e.contract e.area e.terms ∷ [];
-      capacity = s.capacity;
-    })
-
 -- the order is newest, and a regular round under way with it as incoming
 abbrev pub after_entry : State → Entry → State
 after_entry s e = record {
   number = s.number;
-  phase = Under (Regular e.contract e.number);
+  round = Some (Regular e.contract e.number);
   closed = s.closed;
   book = s.book ++ entered e.number e.member e.contract e.area e.terms ∷ [];
   capacity = s.capacity;
 }
+
+-- an entry makes the order newest and begins a regular round with it as incoming
+abbrev pub entering : State → ℕ → Entry → Result (Unit {0}) Refusal × State
+entering s p e = decided (entry_checks s p e ++ full_test s ∷ []) s (after_entry s e)
 
 -- an order's terms with another limit and quantity
 abbrev pub terms_with : Order → ℤ → ℕ → OrderTerms
@@ -184,7 +195,7 @@ changed s l q (Some k) =
     let o = order_at s.book k in
     record {
       number = s.number;
-      phase = Under (Regular o.contract o.number);
+      round = Some (Regular o.contract o.number);
       closed = s.closed;
       book = without s.book k ++ entered o.number o.member o.contract o.area (terms_with o l q) ∷ [];
       capacity = s.capacity;

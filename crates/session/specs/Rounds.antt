@@ -1,5 +1,5 @@
 -- What a round makes from its beginning to its end: the trades with their routes, oldest first.
-use Rattle.std.specs.Prelude.{◌≡◌, ℕ, not, List, [], ◌∷◌, Ok, Err, Result}
+use Rattle.std.specs.Prelude.{◌≡◌, ℕ, not, List, [], ◌∷◌, Some, Ok, Err, Result}
 use Rattle.capacity.specs.Tests.{answered}
 use Rattle.matching.specs.declared.round.Round.{Round}
 use Rattle.trades.specs.declared.trade.Trade.{Trade}
@@ -7,7 +7,6 @@ use Rattle.trades.specs.Deals.{Deals}
 use Rattle.session.specs.declared.passes.QuietPass.{QuietPass}
 use Rattle.session.specs.declared.passes.Refused.{Refused}
 use Rattle.session.specs.declared.passes.RoundPass.{RoundPass}
-use Rattle.session.specs.declared.phases.Phase.TheVariants.{Under}
 use Rattle.session.specs.Calls.{Test}
 use Rattle.session.specs.Faults.{own, told}
 use Rattle.session.specs.State.{State}
@@ -21,7 +20,7 @@ pub record Logged : Type 0 where
 -- the round under way trades x, and u stands after it
 pub record Makes (s : State) (x : Logged) (u : State) : Type 0 where
   pub round : Round
-  pub under_way : s.phase ≡ Under round
+  pub under_way : s.round ≡ Some round
   pub deal : Deals s.capacity s.book round x.trade x.route
   pub state : u ≡ after_trade s x.trade x.route
 

@@ -12,7 +12,6 @@ use Rattle.trades.specs.declared.trade.Trade.{Trade}
 use Rattle.trades.specs.Deals.{traded_contract, Deals}
 use Rattle.session.specs.declared.passes.Refused.{Refused}
 use Rattle.session.specs.declared.passes.RoundPass.{RoundPass}
-use Rattle.session.specs.declared.phases.Phase.TheVariants.{Quiet, Under}
 use Rattle.session.specs.declared.steps.Step.{Step}
 use Rattle.session.specs.declared.steps.Step.TheVariants.{Traded, Done}
 use Rattle.session.specs.Calls.{Test}
@@ -21,7 +20,7 @@ use Rattle.session.specs.State.{State, is_quiet}
 
 -- a pass with the number p names this session, and a round is under way
 abbrev pub round_here : State → ℕ → Bool
-round_here s p = p == s.number && not (is_quiet s.phase)
+round_here s p = p == s.number && not (is_quiet s.round)
 
 -- a step needs 16 places for the route
 abbrev pub step_tests : State → ℕ → ℕ → List Test
@@ -31,7 +30,7 @@ step_tests s p places = (not (round_here s p), own 1) ∷ (nat_lt places 16, own
 abbrev pub after_trade : State → Trade → List ℕ → State
 after_trade s x xs = record {
   number = s.number;
-  phase = s.phase;
+  round = s.round;
   closed = s.closed;
   book = settled x.buy x.sell x.quantity s.book;
   capacity = carried s.capacity x.contract x.quantity xs;
@@ -43,12 +42,12 @@ rested (Regular c n) os = filter (rests n) os
 rested (Batch c) os = os
 
 abbrev pub after_round : State → Round → State
-after_round s r = record { number = s.number; phase = Quiet; closed = s.closed; book = rested r s.book; capacity = s.capacity }
+after_round s r = record { number = s.number; round = None; closed = s.closed; book = rested r s.book; capacity = s.capacity }
 
 -- The round trades x: along its route, which fills the first places, and the others stay.
 pub record Trades (s : State) (before : List ℕ) (x : Trade) (after : List ℕ) (t : State) : Type 0 where
   pub round : Round
-  pub under_way : s.phase ≡ Under round
+  pub under_way : s.round ≡ Some round
   pub route : List ℕ
   pub deal : Deals s.capacity s.book round x route
   pub places : after ≡ route ++ drop (length route) before
@@ -57,7 +56,7 @@ pub record Trades (s : State) (before : List ℕ) (x : Trade) (after : List ℕ)
 -- The round has no pair left, and is done.
 pub record Ends (s : State) (t : State) : Type 0 where
   pub round : Round
-  pub under_way : s.phase ≡ Under round
+  pub under_way : s.round ≡ Some round
   pub none : (i j : ℕ) → InRound (OpenIn s.capacity (traded_contract round)) round s.book i j → ⊥
   pub state : t ≡ after_round s round
 

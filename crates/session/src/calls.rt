@@ -3,11 +3,11 @@ ghost use Rattle.std.specs.Prelude.{◌≡◌, length};
 ghost use Rattle.session.specs.State.{state, fresh};
 ghost use Rattle.session.specs.Calls.{answer, begun, kept, shut, counted, requesting, noticing, withdrawing, closing, entering, changing, ended, ending};
 
-use crate::entries::Entry;
-use crate::passes::{Closing, QuietPass, Refused, RoundPass};
-use crate::phases::Phase;
+use crate::entries::{Change, Entry};
+use crate::passes::{Closing, QuietPass, Refused, RoundPass, with_pass};
 use crate::state::Session;
 use book::places::Book;
+use capacity::direction::Direction;
 use capacity::figures::Figures;
 use capacity::register::Register;
 
@@ -19,7 +19,7 @@ impl<R: Register> Session<R> {
     {
         let session = Session {
             number,
-            phase: Phase::Quiet,
+            round: None,
             closed: [false; 24],
             book: Book::new(),
             register,
@@ -38,44 +38,34 @@ impl<R: Register> Session<R> {
     pub fn request(
         &mut self,
         pass: QuietPass,
-        contract: u32,
-        from: u32,
-        to: u32,
+        direction: Direction,
         quantity: u32,
     ) -> Result<RoundPass, Refused<QuietPass>>
-        ensures answer { answer result ≡ (requesting (state R.Register.meaning self.old) pass.number contract from to quantity).0 }
-        ensures after { state R.Register.meaning self.new ≡ (requesting (state R.Register.meaning self.old) pass.number contract from to quantity).1 }
+        ensures answer { answer result ≡ (requesting (state R.Register.meaning self.old) pass.number direction.contract direction.from direction.to quantity).0 }
+        ensures after { state R.Register.meaning self.new ≡ (requesting (state R.Register.meaning self.old) pass.number direction.contract direction.from direction.to quantity).1 }
         ensures pass { begun result ≡ pass.number }
     {
-        match self.grant(pass.number, contract, from, to, quantity) {
-            Ok(()) => {
-                let QuietPass { number } = pass;
-                Ok(RoundPass { number })
-            }
-            Err(fault) => Err(Refused { fault, pass }),
-        }
+        let checked = self.ask(pass.number, direction, |register| {
+            register.take(direction, quantity)
+        });
+        pass.into_round(checked)
     }
 
     // Hands a notice to the register, and begins a batch round on the contract.
     pub fn notice(
         &mut self,
         pass: QuietPass,
-        contract: u32,
-        from: u32,
-        to: u32,
+        direction: Direction,
         figures: Figures,
     ) -> Result<RoundPass, Refused<QuietPass>>
-        ensures answer { answer result ≡ (noticing (state R.Register.meaning self.old) pass.number contract from to figures).0 }
-        ensures after { state R.Register.meaning self.new ≡ (noticing (state R.Register.meaning self.old) pass.number contract from to figures).1 }
+        ensures answer { answer result ≡ (noticing (state R.Register.meaning self.old) pass.number direction.contract direction.from direction.to figures).0 }
+        ensures after { state R.Register.meaning self.new ≡ (noticing (state R.Register.meaning self.old) pass.number direction.contract direction.from direction.to figures).1 }
         ensures pass { begun result ≡ pass.number }
     {
-        match self.note(pass.number, contract, from, to, figures) {
-            Ok(()) => {
-                let QuietPass { number } = pass;
-                Ok(RoundPass { number })
-            }
-            Err(fault) => Err(Refused { fault, pass }),
-        }
+        let checked = self.ask(pass.number, direction, |register| {
+            register.notice(direction, figures)
+        });
+        pass.into_round(checked)
     }
 
     // Removes an order by number and member.
@@ -89,10 +79,9 @@ impl<R: Register> Session<R> {
         ensures after { state R.Register.meaning self.new ≡ (withdrawing (state R.Register.meaning self.old) pass.number number member).1 }
         ensures pass { kept result ≡ pass.number }
     {
-        match self.strike(pass.number, number, member) {
-            Ok(()) => Ok(pass),
-            Err(fault) => Err(Refused { fault, pass }),
-        }
+        let checked = self.strike(pass.number, number, member);
+        let (_, pass) = with_pass(checked, pass)?;
+        Ok(pass)
     }
 
     // Removes a contract's orders, closes it for good and answers how many went.
@@ -101,14 +90,11 @@ impl<R: Register> Session<R> {
         ensures after { state R.Register.meaning self.new ≡ (closing (state R.Register.meaning self.old) pass.number contract).1 }
         ensures pass { shut result ≡ pass.number }
     {
-        match self.check_closing(pass.number, contract) {
-            Ok(()) => {
-                self.closed[contract as usize] = true;
-                let gone = self.book.close(contract);
-                Ok(Closing { gone, pass })
-            }
-            Err(fault) => Err(Refused { fault, pass }),
-        }
+        let checked = self.check_closing(pass.number, contract);
+        let (_, pass) = with_pass(checked, pass)?;
+        self.closed[contract as usize] = true;
+        let gone = self.book.close(contract);
+        Ok(Closing { gone, pass })
     }
 
     // Enters an order as the newest, and begins a regular round with it as incoming.
@@ -117,53 +103,33 @@ impl<R: Register> Session<R> {
         ensures after { state R.Register.meaning self.new ≡ (entering (state R.Register.meaning self.old) pass.number entry.now).1 }
         ensures pass { begun result ≡ pass.number }
     {
-        match self.admit(pass.number, entry) {
-            Ok(()) => {
-                let QuietPass { number } = pass;
-                Ok(RoundPass { number })
-            }
-            Err(fault) => Err(Refused { fault, pass }),
-        }
+        let checked = self.admit(pass.number, entry);
+        pass.into_round(checked)
     }
 
     // Gives an order by number and member another limit and quantity; it is newest, and a regular round begins with it as incoming.
     pub fn change(
         &mut self,
         pass: QuietPass,
-        number: u32,
-        member: u32,
-        limit: i32,
-        quantity: u32,
+        change: &Change,
     ) -> Result<RoundPass, Refused<QuietPass>>
-        ensures answer { answer result ≡ (changing (state R.Register.meaning self.old) pass.number number member limit quantity).0 }
-        ensures after { state R.Register.meaning self.new ≡ (changing (state R.Register.meaning self.old) pass.number number member limit quantity).1 }
+        ensures answer { answer result ≡ (changing (state R.Register.meaning self.old) pass.number change.now.number change.now.member change.now.limit change.now.quantity).0 }
+        ensures after { state R.Register.meaning self.new ≡ (changing (state R.Register.meaning self.old) pass.number change.now.number change.now.member change.now.limit change.now.quantity).1 }
         ensures pass { begun result ≡ pass.number }
     {
-        match self.alter(pass.number, number, member, limit, quantity) {
-            Ok(()) => {
-                let QuietPass { number } = pass;
-                Ok(RoundPass { number })
-            }
-            Err(fault) => Err(Refused { fault, pass }),
-        }
+        let checked = self.alter(pass.number, change);
+        pass.into_round(checked)
     }
 
     // Ends a quiet session and gives its register back; refused, the session comes back with the pass.
     pub fn end(self, pass: QuietPass) -> Result<R, (Session<R>, Refused<QuietPass>)>
         ensures { ended R.Register.meaning result ≡ ending (state R.Register.meaning self) pass.number }
     {
-        match self.check_quiet(pass.number) {
-            Ok(()) => {
-                let Session {
-                    number: _,
-                    phase: _,
-                    closed: _,
-                    book: _,
-                    register,
-                } = self;
-                Ok(register)
-            }
-            Err(fault) => Err((self, Refused { fault, pass })),
+        let checked = self.check_quiet(pass.number);
+        // a match: each case moves the session, which `map_err` and `?` cannot
+        match with_pass(checked, pass) {
+            Ok(_) => Ok(self.register),
+            Err(refused) => Err((self, refused)),
         }
     }
 }

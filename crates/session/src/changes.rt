@@ -8,8 +8,8 @@ ghost use Rattle.session.specs.Faults.{told};
 ghost use Rattle.session.specs.State.{state};
 ghost use Rattle.session.specs.Calls.{terms_with, change_tests, changing};
 
+use crate::entries::Change;
 use crate::faults::SessionFault;
-use crate::phases::Phase;
 use crate::state::Session;
 use book::places::Book;
 use book::rows::{Order, OrderTerms};
@@ -17,16 +17,19 @@ use book::terms::check_bounds;
 use capacity::register::Register;
 use matching::round::Round;
 
-fn terms_with(order: &Order, limit: i32, quantity: u32) -> OrderTerms
-    ensures { result ≡ terms_with order.now limit quantity }
-{
-    OrderTerms {
-        kind: order.kind,
-        side: order.side,
-        limit,
-        quantity,
-        peak: order.peak,
-        delta: order.delta,
+impl Change {
+    // The order's terms with the new limit and quantity; the row keeps no terms that they could update.
+    fn terms_of(&self, order: &Order) -> OrderTerms
+        ensures { result ≡ terms_with order.now self.now.limit self.now.quantity }
+    {
+        OrderTerms {
+            kind: order.kind,
+            side: order.side,
+            limit: self.limit,
+            quantity: self.quantity,
+            peak: order.peak,
+            delta: order.delta,
+        }
     }
 }
 
@@ -43,44 +46,28 @@ fn renew(book: &mut Book, at: usize, order: Order)
 
 impl<R: Register> Session<R> {
     // All that is asked of a change; where it is met, the order's place and the order.
-    fn check_change(
-        &self,
-        pass: u32,
-        number: u32,
-        member: u32,
-        limit: i32,
-        quantity: u32,
-    ) -> Result<(usize, Order), SessionFault>
-        ensures answer { MatchResult result (λ _. answered (change_tests (state R.Register.meaning self.now) pass number member limit quantity) ≡ Ok tt) (λ e. answered (change_tests (state R.Register.meaning self.now) pass number member limit quantity) ≡ Err (told e)) }
-        ensures found { IfOk result (λ x. (place (numbered_of number member) (orders self.now.book) ≡ Some x.0) × (order_at (orders self.now.book) x.0 ≡ x.1)) }
+    fn check_change(&self, pass: u32, change: &Change) -> Result<(usize, Order), SessionFault>
+        ensures answer { MatchResult result (λ _. answered (change_tests (state R.Register.meaning self.now) pass change.now.number change.now.member change.now.limit change.now.quantity) ≡ Ok tt) (λ e. answered (change_tests (state R.Register.meaning self.now) pass change.now.number change.now.member change.now.limit change.now.quantity) ≡ Err (told e)) }
+        ensures found { IfOk result (λ x. (place (numbered_of change.now.number change.now.member) (orders self.now.book) ≡ Some x.0) × (x.0 < length (orders self.now.book)) × (order_at (orders self.now.book) x.0 ≡ x.1)) }
     {
         self.check_quiet(pass)?;
-        check_bounds(limit, quantity)?;
-        let Some(at) = self.book.find_of(number, member) else {
-            return Err(SessionFault::Unknown);
-        };
+        check_bounds(change.limit, change.quantity)?;
+        let at = self.check_known(change.number, change.member)?;
         let order = self.book.order(at).unwrap();
-        terms_with(&order, limit, quantity).check_slices()?;
+        change.terms_of(&order).check_slices()?;
         Ok((at, order))
     }
 
     // A change.
-    pub(crate) fn alter(
-        &mut self,
-        pass: u32,
-        number: u32,
-        member: u32,
-        limit: i32,
-        quantity: u32,
-    ) -> Result<(), SessionFault>
-        ensures answer { said told result ≡ (changing (state R.Register.meaning self.old) pass number member limit quantity).0 }
-        ensures after { state R.Register.meaning self.new ≡ (changing (state R.Register.meaning self.old) pass number member limit quantity).1 }
+    pub(crate) fn alter(&mut self, pass: u32, change: &Change) -> Result<(), SessionFault>
+        ensures answer { said told result ≡ (changing (state R.Register.meaning self.old) pass change.now.number change.now.member change.now.limit change.now.quantity).0 }
+        ensures after { state R.Register.meaning self.new ≡ (changing (state R.Register.meaning self.old) pass change.now.number change.now.member change.now.limit change.now.quantity).1 }
     {
-        let (at, old) = self.check_change(pass, number, member, limit, quantity)?;
-        let terms = terms_with(&old, limit, quantity);
+        let (at, old) = self.check_change(pass, change)?;
+        let terms = change.terms_of(&old);
         let order = Order::entered(old.number, old.member, old.contract, old.area, &terms);
         renew(&mut self.book, at, order);
-        self.phase = Phase::Under(Round::Regular {
+        self.round = Some(Round::Regular {
             contract: old.contract,
             incoming: old.number,
         });

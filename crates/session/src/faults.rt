@@ -35,7 +35,7 @@ pub enum SessionFault {
 }
 
 impl SessionFault {
-    // The number that it is refused by.
+    // The number that it is refused by: the sheet of refusals is this table, and the register's part its own.
     pub fn number(&self) -> u32
         ensures { result ≡ number_of (told self.now) }
     {
@@ -64,6 +64,7 @@ impl From<RegisterFault> for SessionFault {
     }
 }
 
+// The book's four refusals are cases here, and a match is the plainest way from one enum to another.
 impl From<BookFault> for SessionFault {
     ghost from_gives = { λ f r. r ≡ risen f };
 

@@ -7,10 +7,8 @@ use crate::passes::{QuietPass, Refused, RoundPass};
 use crate::state::Session;
 use crate::steps::Step;
 use capacity::register::Register;
+use routes::ROUTE_PLACES;
 use trades::Trade;
-
-// The most areas of a route.
-const ROUTE_PLACES: usize = 16;
 
 // What a caller does with the trades of a round.
 pub trait TradeLog {
@@ -35,16 +33,13 @@ impl<R: Register> Session<R> {
         let mut places = [0u32; ROUTE_PLACES];
         let mut pass = pass;
         loop {
-            match self.step(pass, &mut places) {
-                Ok(made) => match made {
-                    Step::Traded { trade, pass: next } => {
-                        let route = &places[0..trade.areas];
-                        log.note(&trade, route);
-                        pass = next;
-                    }
-                    Step::Done(quiet) => return Ok(quiet),
-                },
-                Err(refused) => return Err(refused),
+            match self.step(pass, &mut places)? {
+                Step::Traded { trade, pass: next } => {
+                    let route = &places[..trade.areas];
+                    log.note(&trade, route);
+                    pass = next;
+                }
+                Step::Done(quiet) => return Ok(quiet),
             }
         }
     }

@@ -1,4 +1,4 @@
-// A session over any register of capacity: passes, phases, and the calls that members and operators make.
+// A session over any register of capacity: passes, rounds, and the calls that members and operators make.
 #![tactic(auto)]
 
 mod calls;
@@ -8,7 +8,6 @@ pub mod entries;
 pub mod faults;
 pub mod finishing;
 pub mod passes;
-pub mod phases;
 mod reading;
 mod settling;
 pub mod state;

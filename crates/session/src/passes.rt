@@ -1,5 +1,8 @@
 // Passes: what a caller must hold to make a call, and how they come back.
 ghost use Rattle.std.specs.Prelude.{◌≡◌};
+ghost use Rattle.capacity.specs.Tests.{said};
+ghost use Rattle.session.specs.Calls.{answer, begun, with_pass};
+ghost use Rattle.session.specs.Faults.{told};
 
 use crate::faults::SessionFault;
 
@@ -16,9 +19,24 @@ impl QuietPass {
     {
         self.number
     }
+
+    // An accepted call turns it into the pass of the round that began, a refused one hands it back.
+    pub(crate) fn into_round(
+        self,
+        checked: Result<(), SessionFault>,
+    ) -> Result<RoundPass, Refused<QuietPass>>
+        ensures answer { answer result ≡ said told checked }
+        ensures pass { begun result ≡ self.number }
+    {
+        let (_, pass) = with_pass(checked, self)?;
+        Ok(RoundPass {
+            number: pass.number,
+        })
+    }
 }
 
 // The pass of a session with a round under way. It cannot be let go: only the step that ends the round takes it apart.
+// So it is a type of its own: one generic pass could not be let go in one phase and held in the other.
 pub struct RoundPass {
     pub(crate) number: u32,
 }
@@ -35,4 +53,17 @@ pub struct Refused<P> {
 pub struct Closing {
     pub gone: usize,
     pub pass: QuietPass,
+}
+
+// What an accepted call gave, beside its pass; a refused one hands the pass back.
+pub(crate) fn with_pass<P, T>(
+    checked: Result<T, SessionFault>,
+    pass: P,
+) -> Result<(T, P), Refused<P>>
+    ensures { result ≡ with_pass checked pass }
+{
+    match checked {
+        Ok(given) => Ok((given, pass)),
+        Err(fault) => Err(Refused { fault, pass }),
+    }
 }

@@ -37,8 +37,7 @@ impl<R: Register> Session<R> {
     pub fn check_view_in(&self, contract: u32, area: u32) -> Result<(), SessionFault>
         ensures { said told result ≡ answered (contract_test contract ∷ closed_test (state R.Register.meaning self.now) contract ∷ area_test area ∷ []) }
     {
-        check_contract(contract)?;
-        self.check_open(contract)?;
+        self.check_view(contract)?;
         check_area(area)
     }
 }

@@ -1,55 +1,45 @@
 // A step of a round: one trade settled, or the round's end.
-ghost use Rattle.std.specs.Prelude.{◌≡◌, length, Ok, Err, MatchResult};
+ghost use Rattle.std.specs.Prelude.{◌≡◌, length, Some, Ok, Err, MatchResult};
 ghost use Rattle.book.specs.Orderly.{Orderly};
 ghost use Rattle.book.specs.Places.{orders};
 ghost use Rattle.capacity.specs.Tests.{answered};
 ghost use Rattle.matching.specs.declared.round.Round.{Round as ARound};
 ghost use Rattle.routes.specs.Listed.{listed};
 ghost use Rattle.trades.specs.Deals.{Deals};
-ghost use Rattle.session.specs.declared.phases.Phase.TheVariants.{Under};
 ghost use Rattle.session.specs.Faults.{told};
 ghost use Rattle.session.specs.State.{state};
 ghost use Rattle.session.specs.Steps.{step_tests, after_trade, after_round, rested, Stepped, stepped_pass, OnlyStep};
 
+use crate::checks::refuse_if;
 use crate::faults::SessionFault;
-use crate::passes::{QuietPass, Refused, RoundPass};
-use crate::phases::Phase;
+use crate::passes::{QuietPass, Refused, RoundPass, with_pass};
 use crate::state::Session;
 use crate::steps::Step;
 use book::places::Book;
 use capacity::register::Register;
 use flows::carry;
 use matching::round::Round;
+use routes::ROUTE_PLACES;
 use trades::{Deal, next_trade, write_route};
-
-// The most areas of a route.
-const ROUTE_PLACES: usize = 16;
 
 // Drops an incoming IOC, which never rests.
 fn rest(book: &mut Book, round: Round)
     ensures after { orders book.new ≡ rested round (orders book.old) }
     ensures orderly { Orderly (orders book.old) → Orderly (orders book.new) }
 {
-    match round {
-        Round::Regular { incoming, .. } => book.drop_ioc(incoming),
-        Round::Batch { .. } => {}
+    if let Round::Regular { incoming, .. } = round {
+        book.drop_ioc(incoming);
     }
 }
 
 impl<R: Register> Session<R> {
     // The round under way, if the pass names it and there are places enough for a route.
     fn check_round(&self, pass: u32, places: usize) -> Result<Round, SessionFault>
-        ensures { MatchResult result (λ round. (answered (step_tests (state R.Register.meaning self.now) pass places) ≡ Ok tt) × (self.now.phase ≡ Under round)) (λ e. answered (step_tests (state R.Register.meaning self.now) pass places) ≡ Err (told e)) }
+        ensures { MatchResult result (λ round. (answered (step_tests (state R.Register.meaning self.now) pass places) ≡ Ok tt) × (self.now.round ≡ Some round)) (λ e. answered (step_tests (state R.Register.meaning self.now) pass places) ≡ Err (told e)) }
     {
-        let Phase::Under(round) = self.phase else {
-            return Err(SessionFault::Pass);
-        };
-        if pass != self.number {
-            return Err(SessionFault::Pass);
-        }
-        if places < ROUTE_PLACES {
-            return Err(SessionFault::Places);
-        }
+        let round = self.round.ok_or(SessionFault::Pass)?;
+        refuse_if(pass != self.number, SessionFault::Pass)?;
+        refuse_if(places < ROUTE_PLACES, SessionFault::Places)?;
         Ok(round)
     }
 
@@ -73,7 +63,7 @@ impl<R: Register> Session<R> {
         ensures { state R.Register.meaning self.new ≡ after_round (state R.Register.meaning self.old) round }
     {
         rest(&mut self.book, round);
-        self.phase = Phase::Quiet;
+        self.round = None;
     }
 
     // Makes the next trade of the round, or says that it is done.
@@ -82,10 +72,8 @@ impl<R: Register> Session<R> {
         ensures pass { stepped_pass result ≡ pass.number }
         ensures only { OnlyStep (state R.Register.meaning self.old) pass.number places.old result places.new (state R.Register.meaning self.new) }
     {
-        let round = match self.check_round(pass.number, places.len()) {
-            Ok(round) => round,
-            Err(fault) => return Err(Refused { fault, pass }),
-        };
+        let checked = self.check_round(pass.number, places.len());
+        let (round, pass) = with_pass(checked, pass)?;
         match next_trade(&self.book, &self.register, round) {
             Some(deal) => {
                 self.settle(&deal);

@@ -2,13 +2,14 @@
 ghost use Rattle.book.specs.Places.{orders};
 ghost use Rattle.book.specs.Orderly.{Orderly};
 
-use crate::phases::Phase;
 use book::places::Book;
+use matching::round::Round;
 
 #[derive(Drop)]
 pub struct Session<R> {
     pub(crate) number: u32,
-    pub(crate) phase: Phase,
+    // the round under way, none while quiet
+    pub(crate) round: Option<Round>,
     pub(crate) closed: [bool; 24],
     pub(crate) book: Book,
     pub(crate) register: R,

@@ -1,12 +1,13 @@
 // Worked rounds: one that a grant opens, one that goes to the better price across a border, and those of a changed iceberg.
 ghost use Rattle.std.specs.Prelude.{◌≡◌, Some};
 
-use crate::entries::Entry;
+use crate::entries::{Change, Entry};
 use crate::finishing::TradeLog;
 use crate::passes::{QuietPass, Refused, RoundPass};
 use crate::state::Session;
 use crate::steps::Step;
 use book::rows::{Kind, OrderTerms, Side};
+use capacity::direction::Direction;
 use capacity::figures::Figures;
 use capacity::map::ConnectorMap;
 use capacity::register::Register;
@@ -19,35 +20,28 @@ type Market = Session<Reserve<FullTable>>;
 
 const CONTRACT: u32 = 3;
 
+// The round pass that a refusal hands back cannot be let go.
+fn refused(refusal: Refused<RoundPass>) -> Fail {
+    let Refused { fault: _, pass } = refusal;
+    let RoundPass { number: _ } = pass;
+    Fail::new("refused")
+}
+
 fn stepped(session: &mut Market, pass: RoundPass) -> Result<(Trade, RoundPass), Fail> {
     let mut places = [0u32; 16];
-    match session.step(pass, &mut places) {
-        Ok(made) => match made {
-            Step::Traded { trade, pass } => Ok((trade, pass)),
-            Step::Done(_) => Err(Fail::new("done")),
-        },
-        Err(refused) => {
-            let Refused { fault: _, pass } = refused;
-            let RoundPass { number: _ } = pass;
-            Err(Fail::new("refused"))
-        }
+    match session.step(pass, &mut places).map_err(refused)? {
+        Step::Traded { trade, pass } => Ok((trade, pass)),
+        Step::Done(_) => Err(Fail::new("done")),
     }
 }
 
 fn done(session: &mut Market, pass: RoundPass) -> Result<QuietPass, Fail> {
     let mut places = [0u32; 16];
-    match session.step(pass, &mut places) {
-        Ok(made) => match made {
-            Step::Done(quiet) => Ok(quiet),
-            Step::Traded { trade: _, pass } => {
-                let RoundPass { number: _ } = pass;
-                Err(Fail::new("traded"))
-            }
-        },
-        Err(refused) => {
-            let Refused { fault: _, pass } = refused;
+    match session.step(pass, &mut places).map_err(refused)? {
+        Step::Done(quiet) => Ok(quiet),
+        Step::Traded { trade: _, pass } => {
             let RoundPass { number: _ } = pass;
-            Err(Fail::new("refused"))
+            Err(Fail::new("traded"))
         }
     }
 }
@@ -69,16 +63,16 @@ impl TradeLog for LastTrade {
 // Runs a round to its end, and gives its last trade.
 fn run_out(session: &mut Market, pass: RoundPass) -> Result<Trade, Fail> {
     let mut log = LastTrade { trade: None };
-    match session.finish_round(pass, &mut log) {
-        Ok(_) => match log.trade {
-            Some(trade) => Ok(trade),
-            None => Err(Fail::new("no trade")),
-        },
-        Err(refused) => {
-            let Refused { fault: _, pass } = refused;
-            let RoundPass { number: _ } = pass;
-            Err(Fail::new("refused"))
-        }
+    session.finish_round(pass, &mut log).map_err(refused)?;
+    log.trade.ok_or_else(|| Fail::new("no trade"))
+}
+
+// From area 0 to another.
+fn way(to: u32) -> Direction {
+    Direction {
+        contract: CONTRACT,
+        from: 0,
+        to,
     }
 }
 
@@ -89,10 +83,10 @@ fn noticed(session: &mut Market, pass: QuietPass, to: u32) -> Result<QuietPass, 
         aac: 0,
         aac_back: 0,
     };
-    match session.notice(pass, CONTRACT, 0, to, figures) {
-        Ok(round) => done(session, round),
-        Err(_) => Err(Fail::new("notice refused")),
-    }
+    let round = session
+        .notice(pass, way(to), figures)
+        .map_err(|_| Fail::new("notice refused"))?;
+    done(session, round)
 }
 
 fn entered_on(
@@ -109,10 +103,9 @@ fn entered_on(
         area,
         terms,
     };
-    match session.enter(pass, &entry) {
-        Ok(round) => Ok(round),
-        Err(_) => Err(Fail::new("entry refused")),
-    }
+    session
+        .enter(pass, &entry)
+        .map_err(|_| Fail::new("entry refused"))
 }
 
 fn entered(
@@ -136,10 +129,15 @@ fn entered(
 
 // Changes order 1, to a limit and 120.
 fn changed(session: &mut Market, pass: QuietPass, limit: i32) -> Result<RoundPass, Fail> {
-    match session.change(pass, 1, 7, limit, 120) {
-        Ok(round) => Ok(round),
-        Err(_) => Err(Fail::new("change refused")),
-    }
+    let change = Change {
+        number: 1,
+        member: 7,
+        limit,
+        quantity: 120,
+    };
+    session
+        .change(pass, &change)
+        .map_err(|_| Fail::new("change refused"))
 }
 
 // Changes order 1 to less than its peak, and gives the number that this is refused by.
@@ -148,7 +146,13 @@ fn refused_by(
     pass: QuietPass,
     member: u32,
 ) -> Result<(u32, QuietPass), Fail> {
-    match session.change(pass, 1, member, 4_000, 40) {
+    let change = Change {
+        number: 1,
+        member,
+        limit: 4_000,
+        quantity: 40,
+    };
+    match session.change(pass, &change) {
         Err(Refused { fault, pass }) => Ok((fault.number(), pass)),
         Ok(RoundPass { number: _ }) => Err(Fail::new("changed")),
     }
@@ -164,16 +168,16 @@ fn grant_opens_the_way_back(rt: HostRuntime) -> Result<(), Fail> {
     let pass = done(&mut session, round)?;
     let round = entered(&mut session, pass, 2, Side::Buy, 0, 5_000)?;
     let pass = done(&mut session, round)?;
-    let pass = match session.request(pass, CONTRACT, 0, 1, 101) {
+    let pass = match session.request(pass, way(1), 101) {
         Err(Refused { fault, pass }) => {
             assert_eq!(rt; fault.number(), 13);
             pass
         }
         Ok(RoundPass { number: _ }) => return Err(Fail::new("granted")),
     };
-    let Ok(round) = session.request(pass, CONTRACT, 0, 1, 100) else {
-        return Err(Fail::new("request refused"));
-    };
+    let round = session
+        .request(pass, way(1), 100)
+        .map_err(|_| Fail::new("request refused"))?;
     let (trade, round) = stepped(&mut session, round)?;
     let _pass = done(&mut session, round)?;
     assert_eq!(rt; trade.quantity, 50);

@@ -1,57 +1,38 @@
 // What each call does, for a pass of any number.
-ghost use Rattle.std.specs.Prelude.{◌≡◌};
+ghost use Rattle.std.specs.Prelude.{◌≡◌, Bool, List};
+ghost use Rattle.std.specs.Fn.{FnOnceReturnsAtMut};
+ghost use Rattle.capacity.specs.Faults.{Refusal};
+ghost use Rattle.capacity.specs.Meaning.{Capacity};
 ghost use Rattle.capacity.specs.Tests.{answered, said};
 ghost use Rattle.session.specs.Faults.{told};
 ghost use Rattle.session.specs.State.{state};
-ghost use Rattle.session.specs.Calls.{requesting, noticing, withdrawing, entering, close_tests, entry_checks};
+ghost use Rattle.session.specs.Calls.{AnswersBy, Asked, withdrawing, entering, close_tests, entry_checks};
 
-use crate::checks::{check_area, check_contract};
 use crate::entries::Entry;
 use crate::faults::SessionFault;
-use crate::phases::Phase;
 use crate::state::Session;
 use book::rows::Order;
-use capacity::figures::Figures;
+use capacity::direction::Direction;
+use capacity::faults::RegisterFault;
 use capacity::register::Register;
 use matching::round::Round;
 
 impl<R: Register> Session<R> {
-    // An explicit request.
-    pub(crate) fn grant(
+    // A call that the register answers for a direction, and a batch round on its contract if it accepts.
+    pub(crate) fn ask<F: FnOnce(&mut R) -> Result<(), RegisterFault>>(
         &mut self,
         pass: u32,
-        contract: u32,
-        from: u32,
-        to: u32,
-        quantity: u32,
+        direction: Direction,
+        call: F,
     ) -> Result<(), SessionFault>
-        ensures answer { said told result ≡ (requesting (state R.Register.meaning self.old) pass contract from to quantity).0 }
-        ensures after { state R.Register.meaning self.new ≡ (requesting (state R.Register.meaning self.old) pass contract from to quantity).1 }
+        requires { F.IsAlwaysCallable call }
+        ensures { (ts : List (Bool × Refusal)) (m : Capacity) → AnswersBy R.Register.meaning (FnOnceReturnsAtMut F.FnOnce call) self.old.register ts m → Asked (said told result) (state R.Register.meaning self.new) (state R.Register.meaning self.old) pass direction.contract ts m }
     {
         self.check_quiet(pass)?;
+        let contract = direction.contract;
         self.check_open(contract)?;
-        self.register.take(contract, from, to, quantity)?;
-        self.phase = Phase::Under(Round::Batch { contract });
-        Ok(())
-    }
-
-    // A notice.
-    pub(crate) fn note(
-        &mut self,
-        pass: u32,
-        contract: u32,
-        from: u32,
-        to: u32,
-        figures: Figures,
-    ) -> Result<(), SessionFault>
-        ensures answer { said told result ≡ (noticing (state R.Register.meaning self.old) pass contract from to figures).0 }
-        ensures after { state R.Register.meaning self.new ≡ (noticing (state R.Register.meaning self.old) pass contract from to figures).1 }
-    {
-        self.check_quiet(pass)?;
-        self.check_open(contract)?;
-        self.register.notice(contract, from, to, figures)?;
-        let round = Round::Batch { contract };
-        self.phase = Phase::Under(round);
+        call(&mut self.register)?;
+        self.round = Some(Round::Batch { contract });
         Ok(())
     }
 
@@ -61,9 +42,7 @@ impl<R: Register> Session<R> {
         ensures after { state R.Register.meaning self.new ≡ (withdrawing (state R.Register.meaning self.old) pass number member).1 }
     {
         self.check_quiet(pass)?;
-        let Some(at) = self.book.find_of(number, member) else {
-            return Err(SessionFault::Unknown);
-        };
+        let at = self.check_known(number, member)?;
         self.book.remove(at);
         Ok(())
     }
@@ -73,8 +52,7 @@ impl<R: Register> Session<R> {
         ensures { said told result ≡ answered (close_tests (state R.Register.meaning self.now) pass contract) }
     {
         self.check_quiet(pass)?;
-        check_contract(contract)?;
-        self.check_open(contract)
+        self.check_view(contract)
     }
 
     // All that is asked of an entry, but for a place in the book.
@@ -82,9 +60,7 @@ impl<R: Register> Session<R> {
         ensures { said told result ≡ answered (entry_checks (state R.Register.meaning self.now) pass entry.now) }
     {
         self.check_quiet(pass)?;
-        check_contract(entry.contract)?;
-        self.check_open(entry.contract)?;
-        check_area(entry.area)?;
+        self.check_view_in(entry.contract, entry.area)?;
         entry.terms.check()?;
         self.check_unused(entry.number)
     }
@@ -99,7 +75,7 @@ impl<R: Register> Session<R> {
         let incoming = entry.number;
         let order = Order::entered(incoming, entry.member, contract, entry.area, &entry.terms);
         self.book.append(order)?;
-        self.phase = Phase::Under(Round::Regular { contract, incoming });
+        self.round = Some(Round::Regular { contract, incoming });
         Ok(())
     }
 }

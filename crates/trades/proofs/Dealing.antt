@@ -17,22 +17,16 @@ executable O (Batch c) os i j h = h.0
 
 -- an order that stands at a place
 pub stands : (os : List Order) (i : ℕ) (o : Order) → Some o ≡ nth os i → order_at os i ≡ o
-stands [] i o e = absurd (let z : ◌≡◌ {A = ℕ} 0 1 = cc in omega arith)
+stands [] i o e = cc
 stands (x ∷ os) zero o e = cc
 stands (x ∷ os) (suc i) o e = stands os i o e
 
 pub none_past : (os : List Order) (i : ℕ) → None ≡ nth os i → i < length os → ⊥
 none_past [] i e h = omega arith
-none_past (x ∷ os) zero e h = let z : ◌≡◌ {A = ℕ} 0 1 = cc in omega arith
+none_past (x ∷ os) zero e h = cc
 none_past (x ∷ os) (suc i) e h = none_past os i e (omega arith)
 
--- the pair is of places of the book, and a path joins its areas
-pub buy_stands : (f : ℕ → ℕ → Bool) (r : Round) (os : List Order) (i j : ℕ) → Chosen (Holds f) r os i j → None ≡ nth os i → ⊥
-buy_stands f r os i j h e = none_past os i e (executable (Holds f) r os i j h.pair).buy_in
-
-pub sell_stands : (f : ℕ → ℕ → Bool) (r : Round) (os : List Order) (i j : ℕ) → Chosen (Holds f) r os i j → None ≡ nth os j → ⊥
-sell_stands f r os i j h e = none_past os j e (executable (Holds f) r os i j h.pair).sell_in
-
+-- a path joins the areas of the pair
 pub path_leads : (f : ℕ → ℕ → Bool) (r : Round) (os : List Order) (i j : ℕ) (b s : Order) → Chosen (Holds f) r os i j → Some b ≡ nth os i → Some s ≡ nth os j → ((xs : List ℕ) → Path (Holds f) s.area b.area xs → ⊥) → ⊥
 path_leads f r os i j b s h eb es none =
     let leads = (executable (Holds f) r os i j h.pair).leads in

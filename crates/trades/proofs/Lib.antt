@@ -1,4 +1,3 @@
 -- Lemmas.
 pub mod Dealing
 pub mod Once
-mod Written

@@ -17,16 +17,7 @@ pos_same a b e = cc
 
 -- trades with the same parts
 same_parts : (x y : Trade) → x.contract ≡ y.contract → x.buy ≡ y.buy → x.sell ≡ y.sell → x.buyer ≡ y.buyer → x.seller ≡ y.seller → x.price ≡ y.price → x.quantity ≡ y.quantity → x.areas ≡ y.areas → x ≡ y
-same_parts x y a b c d e f g h =
-    let made : ℕ → ℕ → ℕ → ℕ → ℕ → ℤ → ℕ → ℕ → Trade = λ a b c d e f g h. record { contract = a; buy = b; sell = c; buyer = d; seller = e; price = f; quantity = g; areas = h } in
-    ap (λ z. made z x.buy x.sell x.buyer x.seller x.price x.quantity x.areas) a
-    ∙ ap (λ z. made y.contract z x.sell x.buyer x.seller x.price x.quantity x.areas) b
-    ∙ ap (λ z. made y.contract y.buy z x.buyer x.seller x.price x.quantity x.areas) c
-    ∙ ap (λ z. made y.contract y.buy y.sell z x.seller x.price x.quantity x.areas) d
-    ∙ ap (λ z. made y.contract y.buy y.sell y.buyer z x.price x.quantity x.areas) e
-    ∙ ap (λ z. made y.contract y.buy y.sell y.buyer y.seller z x.quantity x.areas) f
-    ∙ ap (λ z. made y.contract y.buy y.sell y.buyer y.seller y.price z x.areas) g
-    ∙ ap (λ z. made y.contract y.buy y.sell y.buyer y.seller y.price y.quantity z) h
+same_parts x y a b c d e f g h = λ n. record { contract = a n; buy = b n; sell = c n; buyer = d n; seller = e n; price = f n; quantity = g n; areas = h n }
 
 pub one_deal : (m : Capacity) (os : List Order) (r : Round) (x : Trade) (xs : List ℕ) (x' : Trade) (xs' : List ℕ) → Deals m os r x xs → Deals m os r x' xs' → (x ≡ x') × (xs ≡ xs')
 one_deal m os r x xs x' xs' h k =

@@ -27,22 +27,11 @@ fn contract_of(round: Round) -> u32
 fn price_of(round: Round, pair: Pair, buy: &Order, sell: &Order) -> i32
     ensures { result ≡ price round pair.buy pair.sell buy.now sell.now }
 {
-    match round {
-        Round::Regular { incoming, .. } => {
-            if buy.number == incoming {
-                sell.limit
-            } else {
-                buy.limit
-            }
-        }
-        Round::Batch { .. } => {
-            if pair.buy < pair.sell {
-                buy.limit
-            } else {
-                sell.limit
-            }
-        }
-    }
+    let of_buy = match round {
+        Round::Regular { incoming, .. } => buy.number != incoming,
+        Round::Batch { .. } => pair.buy < pair.sell,
+    };
+    if of_buy { buy.limit } else { sell.limit }
 }
 
 // The trade that the round makes next, with its route; none where no pair of the round is left.
@@ -51,18 +40,10 @@ pub fn next_trade<R: Register>(book: &Book, register: &R, round: Round) -> Optio
 {
     let contract = contract_of(round);
     let grid = open_grid(register, contract);
-    let Some(pair) = choose(book, &grid, round) else {
-        return None;
-    };
-    let Some(buy) = book.order(pair.buy) else {
-        return None;
-    };
-    let Some(sell) = book.order(pair.sell) else {
-        return None;
-    };
-    let Some(route) = grid.route(sell.area, buy.area) else {
-        return None;
-    };
+    let pair = choose(book, &grid, round)?;
+    let buy = book.order(pair.buy)?;
+    let sell = book.order(pair.sell)?;
+    let route = grid.route(sell.area, buy.area)?;
     let most = buy.shown.min(sell.shown);
     let trade = Trade {
         contract,

@@ -11,8 +11,8 @@ pub fn write_route(places: &mut [u32], route: &Route)
 {
     let areas = route.areas();
     let n = areas.len();
+    // No `get_mut`, since a proof then knows nothing of what the places hold.
     if n <= places.len() {
-        let front = &mut places[0..n];
-        front.copy_from_slice(areas);
+        places[..n].copy_from_slice(areas);
     }
 }

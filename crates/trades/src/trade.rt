@@ -2,6 +2,7 @@
 use routes::Route;
 
 // The orders by their numbers, the areas of buyer and seller, and how many areas the route has.
+// The route itself goes into places that the caller lends: no heap, and too few of them is a refusal of the step.
 #[derive(Clone, Copy)]
 pub struct Trade {
     pub contract: u32,

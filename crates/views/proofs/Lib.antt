@@ -4,5 +4,6 @@ mod Belows
 mod Reaching
 mod Showing
 mod Gathering
+mod Counting
 mod Once
 mod Ranking

@@ -1,5 +1,5 @@
 -- How each exit of a view answers it; that it has one answer, and leaves one list of lines.
-use Rattle.std.proofs.Common.{◌≡◌, ℕ, Bool, List, ◌++◌, length, take, drop, Ok, Err, Result, sym, refl, ap, ◌∙◌, subst, inl, inr, arith}
+use Rattle.std.proofs.Common.{◌≡◌, ℕ, Bool, List, ◌++◌, length, take, drop, Ok, Err, Result, MatchResult, sym, refl, ap, ◌∙◌, subst, inl, inr, arith}
 use Rattle.std.proofs.lemmas.List.{take-append-drop}
 use Rattle.capacity.specs.Tests.{answered}
 use Rattle.ranking.proofs.Laws.{one_ranking}
@@ -55,17 +55,19 @@ module _ {A : Type 0} (precedes : A → A → Bool) (o : StrictOrder precedes) (
   abbrev pub Answers : Result ℕ SessionFault → List A → Type 0
   Answers r after = Viewed precedes ts Lines before r after × OnlyView precedes ts Lines before r after
 
-  pub by_test : (r : Result ℕ SessionFault) (e : SessionFault) → r ≡ Err e → Err (told e) ≡ answered ts → Answers r before
-  by_test r e is h =
-      let v : Viewed precedes ts Lines before r before = subst (λ (x : Result ℕ SessionFault). Viewed precedes ts Lines before x before) (sym is) (inl (sym h), refl) in
-      (v, only_view r before v)
-
-  pub for_want : Ok tt ≡ answered ts → TooFew Lines before → Answers (Err Places) before
+  for_want : Ok tt ≡ answered ts → TooFew Lines before → Answers (Err Places) before
   for_want h t =
       let v : Viewed precedes ts Lines before (Err Places) before = (inr (sym h, refl, t), refl) in
       (v, only_view (Err Places) before v)
 
-  pub by_lines : (n : ℕ) (after : List A) → Ok tt ≡ answered ts → Written precedes Lines before n after → Answers (Ok n) after
+  by_lines : (n : ℕ) (after : List A) → Ok tt ≡ answered ts → Written precedes Lines before n after → Answers (Ok n) after
   by_lines n after h w =
       let v : Viewed precedes ts Lines before (Ok n) after = (sym h, w) in
       (v, only_view (Ok n) after v)
+
+  -- the lines counted and put in, where All tells of them
+  pub by_fill : (All : List A → Type 0) → ((xs : List A) → All xs → Lines xs) → Ok tt ≡ answered ts → (r : Result ℕ SessionFault) (after : List A)
+      → MatchResult r (λ n. Written precedes All before n after) (λ e. (e ≡ Places) × TooFew All before × (after ≡ before)) → Answers r after
+  by_fill All is h (Ok n) after w = by_lines n after h (w.0, is w.0 w.1, w.2, w.3)
+  by_fill All is h (Err e) after w =
+      subst (λ (f : SessionFault). Answers (Err f) after) (sym w.0) (subst (Answers (Err Places)) (sym w.2) (for_want h (w.1.0, is w.1.0 w.1.1, w.1.2)))

@@ -1,15 +1,19 @@
 -- The lines of the capacity view.
-use Rattle.std.specs.Prelude.{◌≡◌, ℕ, true, cond, List, [], ◌∷◌}
+use Rattle.std.specs.Prelude.{◌≡◌, ℕ, ◌/◌, ◌%◌, true, cond, List, [], ◌∷◌, Option}
 use Rattle.std.specs.List.{ContainsAt as Has}
 use Rattle.capacity.specs.Meaning.{Capacity, atc}
 use Rattle.session.specs.Calls.{Test, contract_test, closed_test}
 use Rattle.session.specs.State.{State}
 use Rattle.views.specs.declared.lines.CapacityLine.{CapacityLine}
-use Rattle.views.specs.Gathered.{each_below}
+use Rattle.views.specs.Gathered.{line_if, each_below}
 
 -- the direction from a to b, if a connector has it
 abbrev pub line_of : Capacity → ℕ → ℕ → ℕ → List CapacityLine
 line_of m c a b = cond (m.joins a b) (record { from = a; to = b; atc = atc m c a b } ∷ []) []
+
+-- what the view shows at place i: sixteen places for each area that a direction may lead from
+abbrev pub ShowsDirection : Capacity → ℕ → ℕ → Option CapacityLine → Type 0
+ShowsDirection m c i o = line_if o ≡ line_of m c (i / 16) (i % 16)
 
 abbrev pub lines_from : Capacity → ℕ → ℕ → List CapacityLine
 lines_from m c a = each_below 16 (line_of m c a)

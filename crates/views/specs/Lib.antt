@@ -4,3 +4,4 @@ pub mod Views
 pub mod Gathered
 pub mod Capacities
 pub mod Books
+pub mod Single

@@ -2,11 +2,11 @@
 #![tactic(auto)]
 
 mod directions;
-mod filling;
 pub mod lines;
 mod offers;
 #[cfg(test)]
 mod tests;
+mod view;
 
 pub use directions::capacity_view;
 pub use offers::book_view;

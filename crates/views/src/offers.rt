@@ -1,15 +1,16 @@
 // The book view: the orders of a side that a path joins to an area, by rank.
-ghost use Rattle.std.specs.Prelude.{◌≡◌, ◌<◌, ◌≤◌, List, length, Decides};
+ghost use Rattle.std.specs.Prelude.{◌≡◌, length, Decides};
 ghost use Rattle.book.specs.Places.{orders};
 ghost use Rattle.flows.specs.Flows.{open_in};
 ghost use Rattle.routes.specs.Grids.{opens};
 ghost use Rattle.session.specs.State.{state};
-ghost use Rattle.views.specs.Books.{way, Wanted, Shows, LinesOf, BookLines, AsRanked, area_tests};
+ghost use Rattle.views.specs.Books.{way, Wanted, Shows, BookLines, AsRanked, area_tests};
+ghost use Rattle.views.specs.Single.{one_shown};
 ghost use Rattle.views.specs.Ranks.{book_before};
-ghost use Rattle.views.specs.Views.{Held, Viewed, OnlyView};
+ghost use Rattle.views.specs.Views.{Viewed, OnlyView};
 
-use crate::filling::put;
 use crate::lines::BookLine;
+use crate::view::{View, fill};
 use book::places::Book;
 use book::rows::{Kind, Order, Side};
 use capacity::register::Register;
@@ -26,98 +27,64 @@ struct Asked {
     side: Side,
 }
 
-// Whether it is an order of the contract and side that is not IOC.
-fn wanted(asked: Asked, order: &Order) -> bool
-    ensures { Decides result (Wanted asked.contract asked.side order.now) }
-{
-    if order.contract != asked.contract {
-        return false;
+impl Asked {
+    // Whether it is an order of the contract and side that is not IOC.
+    fn wants(&self, order: &Order) -> bool
+        ensures { Decides result (Wanted self.now.contract self.now.side order.now) }
+    {
+        order.contract == self.contract && order.side == self.side && order.kind != Kind::Ioc
     }
-    if matches!(order.kind, Kind::Ioc) {
-        return false;
-    }
-    match asked.side {
-        Side::Buy => matches!(order.side, Side::Buy),
-        Side::Sell => matches!(order.side, Side::Sell),
-    }
-}
 
-// Where a path must lead from, and where to.
-fn ends(asked: Asked, area: u32) -> (u32, u32)
-    ensures { result ≡ way asked.side asked.area area }
-{
-    match asked.side {
-        Side::Buy => (asked.area, area),
-        Side::Sell => (area, asked.area),
-    }
-}
-
-// The line of the order at a place, if the view shows it.
-fn line_at<R: Register>(
-    book: &Book,
-    register: &R,
-    grid: &Grid,
-    asked: Asked,
-    place: usize,
-) -> Option<BookLine>
-    requires grid { opens grid.now ≡ open_in (R.Register.meaning register.now) asked.contract }
-    requires place { place < length (orders book.now) }
-    ensures { Shows (R.Register.meaning register.now) (orders book.now) asked.contract asked.area asked.side place result }
-{
-    let Some(order) = book.order(place) else {
-        return None;
-    };
-    if !wanted(asked, &order) {
-        return None;
-    }
-    let (from, to) = ends(asked, order.area);
-    let Some(route) = grid.route(from, to) else {
-        return None;
-    };
-    let least = least_along(register, asked.contract, &route, order.shown);
-    Some(BookLine {
-        side: asked.side,
-        limit: order.limit,
-        place,
-        quantity: least,
-    })
-}
-
-// How many orders the view shows.
-fn count_lines<R: Register>(book: &Book, register: &R, grid: &Grid, asked: Asked) -> usize
-    requires { opens grid.now ≡ open_in (R.Register.meaning register.now) asked.contract }
-    ensures { (xs : List BookLine) × LinesOf (R.Register.meaning register.now) (orders book.now) asked.contract asked.area asked.side xs × (result ≡ length xs) }
-{
-    let n = book.len();
-    let mut count = 0;
-    for place in 0..n {
-        if line_at(book, register, grid, asked, place).is_some() {
-            count += 1;
+    // Where a path must lead from, and where to.
+    fn ends(&self, area: u32) -> (u32, u32)
+        ensures { result ≡ way self.now.side self.now.area area }
+    {
+        match self.side {
+            Side::Buy => (self.area, area),
+            Side::Sell => (area, self.area),
         }
     }
-    count
 }
 
-// Puts the line of each order in that the view shows, and answers how many there are.
-fn put_lines<R: Register>(
-    book: &Book,
-    register: &R,
-    grid: &Grid,
+// The book, with what is open in the contract that is asked for.
+#[derive(Drop)]
+struct Offers<'a, R: Register> {
+    book: &'a Book,
+    register: &'a R,
+    grid: Grid,
     asked: Asked,
-    lines: &mut [BookLine],
-) -> usize
-    requires grid { opens grid.now ≡ open_in (R.Register.meaning register.now) asked.contract }
-    requires room { (xs : List BookLine) × LinesOf (R.Register.meaning register.now) (orders book.now) asked.contract asked.area asked.side xs × (length xs ≤ length lines.old) }
-    ensures { (xs : List BookLine) × LinesOf (R.Register.meaning register.now) (orders book.now) asked.contract asked.area asked.side xs × (length xs ≤ length lines.old) × Held book_before xs lines.old lines.new result }
-{
-    let places = book.len();
-    let mut len = 0;
-    for place in 0..places {
-        if let Some(line) = line_at(book, register, grid, asked, place) {
-            len = put(lines, len, line);
-        }
+    ghost opened: { opens grid ≡ open_in (R.Register.meaning register.now) asked.contract },
+}
+
+impl<'a, R: Register> View for Offers<'a, R> {
+    type Line = BookLine;
+
+    ghost places = { λ v. length (orders v.book.now) };
+
+    ghost shows = { λ v. Shows (R.Register.meaning v.register.now) (orders v.book.now) v.asked.contract v.asked.area v.asked.side };
+
+    fn places(&self) -> usize {
+        self.book.len()
     }
-    len
+
+    // The line of the order at a place, if the view shows it.
+    fn line(&self, place: usize) -> Option<BookLine> {
+        let order = self.book.order(place)?;
+        if !self.asked.wants(&order) {
+            return None;
+        }
+        let (from, to) = self.asked.ends(order.area);
+        let route = self.grid.route(from, to)?;
+        let least = least_along(self.register, self.asked.contract, &route, order.shown);
+        Some(BookLine {
+            side: self.asked.side,
+            limit: order.limit,
+            place,
+            quantity: least,
+        })
+    }
+
+    ghost one = { λ v. one_shown (R.Register.meaning v.register.now) (orders v.book.now) v.asked.contract v.asked.area v.asked.side };
 }
 
 // Lists the buys that can be reached from an area, or the sells that reach it; no line is written if there are too few.
@@ -134,16 +101,16 @@ pub fn book_view<R: Register>(
     ensures ranks { AsRanked (state R.Register.meaning session.now) contract area side }
 {
     session.check_view_in(contract, area)?;
-    let book = session.book();
     let register = session.register();
-    let grid = open_grid(register, contract);
-    let asked = Asked {
-        contract,
-        area,
-        side,
+    let offers = Offers {
+        book: session.book(),
+        register,
+        grid: open_grid(register, contract),
+        asked: Asked {
+            contract,
+            area,
+            side,
+        },
     };
-    if lines.len() < count_lines(book, register, &grid, asked) {
-        return Err(SessionFault::Places);
-    }
-    Ok(put_lines(book, register, &grid, asked, lines))
+    fill(&offers, lines)
 }

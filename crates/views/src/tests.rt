@@ -6,6 +6,7 @@ ghost use Rattle.session.specs.Steps.{round_here};
 use crate::lines::{BookLine, CapacityLine};
 use crate::{book_view, capacity_view};
 use book::rows::{Kind, OrderTerms, Side};
+use capacity::direction::Direction;
 use capacity::figures::Figures;
 use capacity::map::ConnectorMap;
 use capacity::register::Register;
@@ -33,7 +34,12 @@ fn market() -> (Market, QuietPass) {
         aac: 0,
         aac_back: 0,
     };
-    let _ = register.notice(CONTRACT, 0, 1, figures);
+    let direction = Direction {
+        contract: CONTRACT,
+        from: 0,
+        to: 1,
+    };
+    let _ = register.notice(direction, figures);
     Session::begin(7, register)
 }
 
@@ -71,10 +77,9 @@ fn enter<R: Register>(
 ) -> Result<RoundPass, Fail>
     ensures { IfOk result (λ p. round_here (state R.Register.meaning session.new) p.number ≡ true) }
 {
-    match session.enter(pass, entry) {
-        Ok(round) => Ok(round),
-        Err(_) => Err(Fail::new("entry refused")),
-    }
+    session
+        .enter(pass, entry)
+        .map_err(|_| Fail::new("entry refused"))
 }
 
 // Runs a round to its end.
@@ -82,10 +87,7 @@ fn run_out<R: Register>(session: &mut Session<R>, pass: RoundPass) -> QuietPass
     requires { round_here (state R.Register.meaning session.old) pass.number ≡ true }
 {
     let mut log = NoLog {};
-    match session.finish_round(pass, &mut log) {
-        Ok(quiet) => quiet,
-        Err(_) => unreachable(),
-    }
+    session.finish_round(pass, &mut log).unwrap()
 }
 
 // From area 0: a buy in another area, one in the area itself, and an IOC that is just coming in.

@@ -1,44 +1,45 @@
 // Making a cell to lend, and telling which pair one is for.
 ghost use Rattle.std.specs.Prelude.{◌≡◌, if◌then◌else◌};
-ghost use Rattle.capacity.specs.Directions.{is_way};
-ghost use Rattle.cells.specs.Sides.{no_side, Small};
+ghost use Rattle.capacity.specs.Directions.{is_way_in};
+ghost use Rattle.capacity.specs.Sides.{no_side};
 ghost use Rattle.cells.specs.Cells.{names};
 
 use crate::cell::Cell;
-use crate::side::Side;
+use capacity::direction::Direction;
+use capacity::pair::Pair;
 
 impl Cell {
     // A cell to lend, with nothing in it.
     pub fn new() -> Cell
-        ensures pair { (result.contract ≡ 0) × ((result.from ≡ 0) × (result.to ≡ 0)) }
-        ensures sides { (result.there ≡ no_side) × (result.back ≡ no_side) }
+        ensures pair { (result.direction.contract ≡ 0) × ((result.direction.from ≡ 0) × (result.direction.to ≡ 0)) }
+        ensures sides { (result.pair.there ≡ no_side) × (result.pair.back ≡ no_side) }
     {
         Cell {
-            contract: 0,
-            from: 0,
-            to: 0,
-            there: Side::NONE,
-            back: Side::NONE,
+            direction: Direction {
+                contract: 0,
+                from: 0,
+                to: 0,
+            },
+            pair: Pair::none(),
         }
     }
 
     // Whether the cell is for the pair, either way round.
-    pub(crate) fn names(self, contract: u32, from: u32, to: u32) -> bool
-        ensures { result ≡ names self contract from to }
+    pub(crate) fn names(self, direction: Direction) -> bool
+        ensures { result ≡ names self direction.contract direction.from direction.to }
     {
-        contract == self.contract
-            && (from == self.from && to == self.to || from == self.to && to == self.from)
+        direction == self.direction || direction == self.direction.back()
     }
 
-    // What the cell says of one direction of its connector.
-    pub(crate) fn side(self, from: u32, to: u32) -> Side
-        ensures value { result ≡ (if is_way self.from self.to from to then self.there else self.back) }
-        ensures small { Small result }
+    // The cell's pair, seen in the direction given.
+    pub(crate) fn pair(self, direction: Direction) -> Pair
+        ensures there { result.there ≡ (if is_way_in self.direction.contract self.direction.from self.direction.to direction.contract direction.from direction.to then self.pair.there else self.pair.back) }
+        ensures back { result.back ≡ (if is_way_in self.direction.contract self.direction.from self.direction.to direction.contract direction.from direction.to then self.pair.back else self.pair.there) }
     {
-        if from == self.from && to == self.to {
-            self.there
+        if direction == self.direction {
+            self.pair
         } else {
-            self.back
+            self.pair.turned()
         }
     }
 }

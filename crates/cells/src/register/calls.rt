@@ -6,12 +6,11 @@ ghost use Rattle.cells.specs.Shapes.{cells_of};
 ghost use Rattle.cells.specs.Soundness.{cells_sound};
 
 use crate::cell::Cell;
-use crate::checks::check_take;
 use crate::register::CellRegister;
-use crate::side::Side;
+use capacity::checks::{check_notice, check_take};
+use capacity::direction::Direction;
 use capacity::faults::RegisterFault;
 use capacity::figures::Figures;
-use capacity::limits::{LAST_CONTRACT, TOP_FIGURE};
 use capacity::map::ConnectorMap;
 use capacity::register::Register;
 
@@ -28,84 +27,38 @@ impl<'a> CellRegister<'a> {
     }
 }
 
+// Its own four calls, as those of `FullTable`: one impl for both needs `pair` and `put` public, and those ask something.
 impl<'a> Register for CellRegister<'a> {
     ghost meaning = { cells_of };
 
     ghost sound = { cells_sound };
 
-    fn atc(&self, contract: u32, from: u32, to: u32) -> Option<i32> {
-        if contract > LAST_CONTRACT || !self.map.joins(from, to) {
+    fn atc(&self, direction: Direction) -> Option<i32> {
+        if !self.map.serves(direction) {
             return None;
         }
-        let there = self.side(contract, from, to);
-        let back = self.side(contract, to, from);
-        let gain = there.ntc + back.aac + back.used;
-        let loss = there.aac + there.used;
-        Some(gain as i32 - loss as i32)
+        let pair = self.pair(direction);
+        Some(pair.atc())
     }
 
-    fn held(&self, contract: u32, from: u32, to: u32) -> Option<u32> {
-        if contract > LAST_CONTRACT || !self.map.joins(from, to) {
-            return None;
-        }
-        Some(0)
+    fn held(&self, direction: Direction) -> Option<u32> {
+        self.map.serves(direction).then_some(0)
     }
 
-    fn take(
-        &mut self,
-        contract: u32,
-        from: u32,
-        to: u32,
-        quantity: u32,
-    ) -> Result<(), RegisterFault> {
-        let flow = self.atc(contract, from, to);
-        check_take(contract, from, to, quantity, flow)?;
-        self.raise_use(contract, from, to, quantity);
+    fn take(&mut self, direction: Direction, quantity: u32) -> Result<(), RegisterFault> {
+        let flow = self.atc(direction);
+        check_take(direction, quantity, flow)?;
+        let pair = self.pair(direction);
+        self.put(direction, pair.taken(quantity));
         Ok(())
     }
 
-    fn notice(
-        &mut self,
-        contract: u32,
-        from: u32,
-        to: u32,
-        figures: Figures,
-    ) -> Result<(), RegisterFault> {
-        if contract > LAST_CONTRACT {
-            return Err(RegisterFault::Contract { contract, from, to });
-        }
-        if !self.map.joins(from, to) {
-            return Err(RegisterFault::Unjoined { contract, from, to });
-        }
-        let Figures {
-            ntc,
-            ntc_back,
-            aac,
-            aac_back,
-        } = figures;
-        if ntc > TOP_FIGURE || ntc_back > TOP_FIGURE || aac > TOP_FIGURE || aac_back > TOP_FIGURE {
-            return Err(RegisterFault::Figure { contract, from, to });
-        }
-        if self.find(contract, from, to) >= self.cells.len() {
-            return Err(RegisterFault::Full { contract, from, to });
-        }
-        let there = self.side(contract, from, to);
-        let back = self.side(contract, to, from);
-        self.store(Cell {
-            contract,
-            from,
-            to,
-            there: Side {
-                ntc,
-                aac,
-                used: there.used,
-            },
-            back: Side {
-                ntc: ntc_back,
-                aac: aac_back,
-                used: back.used,
-            },
-        });
+    fn notice(&mut self, direction: Direction, figures: Figures) -> Result<(), RegisterFault> {
+        let joined = self.map.joins(direction.from, direction.to);
+        let full = self.full(direction);
+        check_notice(direction, figures, joined, full)?;
+        let pair = self.pair(direction);
+        self.put(direction, pair.noticed(figures));
         Ok(())
     }
 }

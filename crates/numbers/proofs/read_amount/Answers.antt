@@ -1,26 +1,35 @@
 -- What `read_amount` leaves to show.
-use Rattle.std.proofs.Common.{◌^◌, ◌<◌, sym, subst, arith}
+use Rattle.std.proofs.Common.{◌≡◌, true, ◌∷◌, length, ℤ, pos, ◌-ℤ◌, w64, to_z, of_z, sym, subst, ap, arith, ltb-true, ltb-false}
+use Rattle.std.proofs.lemmas.Int.{ints}
 use Rattle.std.proofs.lemmas.Result.{err_from_is_err_and}
-use Rattle.numbers.specs.Scans.{Scaled, Unscaled}
-use Rattle.numbers.proofs.Scaling.{numeral_small}
-use Rattle.numbers.proofs.Once.{scale_small, means, unread}
+use Rattle.numbers.specs.Reading.{Means}
+use Rattle.numbers.specs.Scans.{Unread, Lacks}
+use Rattle.numbers.proofs.Scanned.{after, begins, lacks_short}
+use Rattle.numbers.proofs.Once.{means, unread, unsigned}
 use Rattle.numbers.proofs.read_amount.Goals as goal
+use Rattle.numbers.proofs.read_amount.Goals.{in_default-via-then-word-lt1, in_default-via-else-word-lt1+in_default-1}
 
-pub scaled-requires : goal.scaled-requires
-scaled-requires c =
-    let s = numeral_small c.args.word.now _ _ _ _ c.in-Some.ensures (omega arith) in
-    (s.0, (s.1, subst (λ x. x < 2 ^ 60) (sym c.decimals.ensures) (scale_small c.args.unit)))
-
-pub returns-in_err-size : goal.returns-in_err-size
-returns-in_err-size c =
+pub returns-in_err-read_size-in-45 : goal.returns-in_err-read_size-in-45
+returns-in_err-read_size-in-45 c =
     let p = err_from_is_err_and c.from_residual.result c.from_residual.ensures.1 in
-    let q = c.in-Some.parts in
-    let e = c.in_err-size.field-0.0 in
-    let u : Unscaled q.mantissa q.shift.up q.shift.down _ e = subst (λ x. Unscaled q.mantissa q.shift.up q.shift.down x e) c.decimals.ensures c.in_err-size.ensures in
-    rw (p.1, p.2) (unread c.args.word.now c.args.unit _ _ _ _ (omega arith) c.in-Some.ensures e u)
+    let s = c.args.word.now in
+    let b : s ≡ 45 ∷ after s = begins s 45 (omega (arith, ltb-true, ltb-false)) (omega (arith, ltb-true, ltb-false)) in
+    let e = c.in_err-read_size-in-45.field-0.0 in
+    rw (p.1, p.2) (subst (λ x. Unread x c.args.unit e) (sym b) (unread true (after s) c.args.unit (omega (arith, ap length b)) (λ z. absurd (cc)) e c.in_err-read_size-in-45.ensures))
 
-pub returns : goal.returns
-returns c =
-    let q = c.in-Some.parts in
-    means c.args.word.now c.args.unit _ _ _ _ (omega arith) c.in-Some.ensures _
-    (subst (λ x. Scaled q.mantissa q.shift.up q.shift.down x c.in_ok-size.size) c.decimals.ensures c.in_ok-size.ensures)
+pub returns-in_ok-read_size-in-45 : goal.returns-in_ok-read_size-in-45
+returns-in_ok-read_size-in-45 c =
+    let s = c.args.word.now in
+    let b : s ≡ 45 ∷ after s = begins s 45 (omega (arith, ltb-true, ltb-false)) (omega (arith, ltb-true, ltb-false)) in
+    let n = c.in_ok-read_size-in-45.field-0 in
+    let z : ℤ = to_z w64 (of_z w64 (pos 0 -ℤ to_z w64 (of_z w64 n))) in
+    subst (λ x. Means x c.args.unit z) (sym b) (means true (after s) c.args.unit (omega (arith, ap length b)) n z c.in_ok-read_size-in-45.ensures (omega (arith, ints, c.in_ok-read_size-in-45.ensures.value)))
+
+pub returns-in_default : goal.returns-in_default
+returns-in_default c =
+    let s = c.args.word.now in
+    let l : Lacks 45 s = elim c.in_default.branch [
+      | in_default-via-then-word-lt1 w ↦ lacks_short 45 s (omega (arith, ltb-true, ltb-false)) (omega arith)
+      | in_default-via-else-word-lt1+in_default-1 w ↦ λ e. omega (arith, ltb-true, ltb-false)
+    ] in
+    unsigned s c.args.unit (omega arith) l _ c.read_size-in_default.ensures

@@ -3,8 +3,10 @@ ghost use Rattle.std.specs.Prelude.{◌≡◌, ◌+◌, ◌<◌, ◌≤◌, fals
 ghost use Rattle.capacity.specs.Directions.{is_way};
 ghost use Rattle.capacity.specs.Network.{connectors};
 ghost use Rattle.capacity.specs.Shapes.{joins_of};
+ghost use Rattle.capacity.specs.Tables.{on};
 
-use crate::limits::LAST_AREA;
+use crate::direction::Direction;
+use crate::limits::{LAST_AREA, LAST_CONTRACT};
 use crate::map::links::Links;
 
 impl Links {
@@ -25,6 +27,13 @@ impl Links {
         low < high && high <= LAST_AREA && self.joined[(16 * low + high) as usize]
     }
 
+    // Whether the contract exists and a connector joins the areas.
+    pub(crate) fn serves(&self, direction: Direction) -> bool
+        ensures { result ≡ on (joins_of self.now) direction.contract direction.from direction.to }
+    {
+        direction.contract <= LAST_CONTRACT && self.joins(direction.from, direction.to)
+    }
+
     pub(crate) fn count(&self) -> u32
         ensures value { result ≡ connectors (joins_of self.now) }
         ensures few { result ≤ 32 }
@@ -32,6 +41,7 @@ impl Links {
         self.count
     }
 
+    // Areas in range are asked by three calls, each after another test of its caller: a type for them would be made anew in each.
     pub(crate) fn join(&mut self, from: u32, to: u32)
         requires { (from ≤ 15) × ((to ≤ 15) × (((from ≢ to)) × ((joins_of self.old from to ≡ false) × (connectors (joins_of self.old) < 32)))) }
         ensures after { joins_of self.new ≡ (λ a b. (is_way from to a b || is_way to from a b) || joins_of self.old a b) }

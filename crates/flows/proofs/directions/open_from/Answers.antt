@@ -11,6 +11,6 @@ loop-to-preserved g c =
     let e = c.set.ensures in
     let f = opens c.loop-to.grid in
     let i = c.loop-to.invariant in (
-      row_more f _ p q _ e (open_in (g.R.Register.meaning c.args.register.now) c.args.contract p) c.requires c.loop-to-test.true c.is_open.ensures i.0,
+      row_more f _ p q _ e (open_in (g.R.Register.meaning c.args.register.now) c.args.contract p) c.requires c.loop-to-test.true c.is_open-open.ensures i.0,
       rows_stand f _ p q _ e (opens c.args.grid.now) i.1,
     )

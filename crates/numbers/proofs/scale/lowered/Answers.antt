@@ -1,12 +1,14 @@
 -- What `lowered` leaves to show.
-use Rattle.std.proofs.Common.{◌≡◌, ◌+◌, ◌-◌, ◌*◌, ◌/◌, ◌^◌, ap, ◌∙◌, arith}
-use Rattle.numbers.proofs.Laws.{lower_more, lower_stuck}
+use Rattle.std.proofs.Common.{◌^◌, ◌<◌, arith}
+use Rattle.numbers.proofs.Laws.{ten_pos}
+use Rattle.numbers.proofs.Scaling.{lower_high, lower_left}
 use Rattle.numbers.proofs.scale.lowered.Goals as goal
 
-pub returns-then-n-ne0 : goal.returns-then-n-ne0
-returns-then-n-ne0 c = lower_stuck _ _ _ _ (omega arith) (omega arith) (λ e. omega arith) c.loop-k.invariant.0
+pub returns-in_err-power : goal.returns-in_err-power
+returns-in_err-power c = let h : 10 ^ c.args.by < 2 ^ 64 → ⊥ = c.in_err-power.ensures in rw c.from_residual.ensures (lower_high c.args.m (10 ^ c.args.by) (omega arith) (omega arith))
 
-pub loop-k-preserved : goal.loop-k-preserved
-loop-k-preserved c =
-    let j : c.args.by - (c.loop-k.k - 1) ≡ c.args.by - c.loop-k.k + 1 = omega arith in
-    (ap (λ x. c.loop-k.n / 10 * 10 ^ x) j ∙ lower_more _ _ _ (omega arith) c.loop-k.invariant.0, omega arith, omega arith)
+pub nonzero_rem-m : goal.nonzero_rem-m
+nonzero_rem-m c = omega (arith, ten_pos c.args.by, c.in_ok-power.ensures)
+
+pub returns-else-m-power-eq0 : goal.returns-else-m-power-eq0
+returns-else-m-power-eq0 c = rw (c.in_ok-power.ensures.1) at (lower_left c.args.m c.in_ok-power.power (omega arith))

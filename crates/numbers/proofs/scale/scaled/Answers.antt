@@ -1,12 +1,15 @@
 -- What `scaled` leaves to show.
-use Rattle.std.proofs.Common.{refl, arith}
-use Rattle.numbers.proofs.Scaling.{ok_or_cases, raise_scaled, lower_scaled, lower_not}
+use Rattle.std.proofs.Common.{◌≡◌, ◌*◌, ◌^◌, ◌≤ℤ◌, ◌+ℤ◌, pos, nat_abs, ap, ◌∙◌, arith}
+use Rattle.std.proofs.lemmas.Int.{ints}
+use Rattle.numbers.specs.Reading.{scale_of}
+use Rattle.numbers.proofs.Scaling.{ok_or_cases, lifted_up, scale_small}
 use Rattle.numbers.proofs.scale.scaled.Goals as goal
 
-pub returns-then-down-up : goal.returns-then-down-up
-returns-then-down-up c =
-    ok_or_cases _ _ _ _ _ _ _ c.ok_or.ensures.value c.raised.ensures (λ h. (_, (raise_scaled _ _ _ _ _ c.if-down-up.true refl, h))) (λ n e. raise_scaled _ _ _ _ _ c.if-down-up.true e)
-
-pub returns-else-down-up : goal.returns-else-down-up
-returns-else-down-up c =
-    ok_or_cases _ _ _ _ _ _ _ c.ok_or-else-down-up.ensures.value c.lowered.ensures (λ h. lower_not _ _ _ _ (omega arith) h) (λ n e. lower_scaled _ _ _ _ _ (omega arith) e)
+pub returns-else-by-lt0 : goal.returns-else-by-lt0
+returns-else-by-lt0 c =
+    let m = c.args.number.mantissa in
+    let k = c.args.number.exponent +ℤ pos (scale_of c.args.unit) in
+    let up : pos 0 ≤ℤ k = omega (arith, ints, scale_small c.args.unit) in
+    let a : c.unsigned_abs-else-by-lt0.result ≡ nat_abs k = omega (arith, ints, c.unsigned_abs-else-by-lt0.ensures.value, scale_small c.args.unit) in
+    let e : m * 10 ^ c.unsigned_abs-else-by-lt0.result ≡ m * 10 ^ nat_abs k = ap (λ x. m * 10 ^ x) a in
+    ok_or_cases c.raised.result _ c.ok_or-else-by-lt0.result _ _ _ _ c.ok_or-else-by-lt0.ensures.value c.raised.ensures (λ h. (_, (lifted_up m k _ up e, omega arith))) (λ n h. lifted_up m k n up (h ∙ e))

@@ -1,6 +1,12 @@
 -- What `digits_then` leaves to show.
-use Rattle.numbers.proofs.Scanned.{splits_at}
+use Rattle.std.proofs.Common.{ap, ◌∙◌, arith, take, drop}
+use Rattle.std.specs.Char.{is_ascii_digit}
+use Rattle.std.proofs.lemmas.List.Sums.{prefix_len-le-length}
+use Rattle.numbers.proofs.Scanned.{front_splits}
 use Rattle.numbers.proofs.scan.digits_then.Goals as goal
 
+pub split_at-requires : goal.split_at-requires
+split_at-requires c = omega (arith, prefix_len-le-length is_ascii_digit c.args.s.now)
+
 pub returns : goal.returns
-returns c = splits_at _ _ _ _ c.digit_run.ensures.within c.digit_run.ensures.front c.digit_run.ensures.stops c.split_at.ensures.front c.split_at.ensures.back
+returns c = front_splits _ _ _ (c.split_at.ensures.front ∙ ap (λ n. take n c.args.s.now) c.digit_run.ensures) (c.split_at.ensures.back ∙ ap (λ n. drop n c.args.s.now) c.digit_run.ensures)

@@ -1,24 +1,11 @@
--- What is noted of a turn, by whether a round follows.
-use Rattle.session.specs.State.{state}
-use Rattle.player.proofs.Noting.{round_noted, call_noted}
+-- A round follows, and its end is noted.
+use Rattle.std.proofs.Common.{◌≡◌, true, rules}
+use Rattle.events.specs.Events.{round_follows}
+use Rattle.player.proofs.Noting.{round_noted}
+use Rattle.player.proofs.playing.take_turn.Goals.{then-begins_round, else-begins_round}
 use Rattle.player.proofs.playing.take_turn.Goals as goal
 
-pub returns-then-round_follows : goal.returns-then-round_follows
-returns-then-round_follows g c =
-    let s = state g.R.Register.meaning c.args.session.now in
-    let t = state g.R.Register.meaning c.perform-answer.new.session in
-    let done = c.perform-answer.ensures in
-    record {
-      turn = round_noted s c.args.pass.number c.args.call.now c.args.log.now c.perform-answer.new.log c.perform-answer.result.0 t done.performed c.requires c.if-round_follows.ensures c.add.new.self c.add.ensures;
-      pass = done.pass;
-    }
-
-pub returns-else-round_follows : goal.returns-else-round_follows
-returns-else-round_follows g c =
-    let s = state g.R.Register.meaning c.args.session.now in
-    let t = state g.R.Register.meaning c.perform-answer.new.session in
-    let done = c.perform-answer.ensures in
-    record {
-      turn = call_noted s c.args.pass.number c.args.call.now c.args.log.now c.perform-answer.new.log c.perform-answer.result.0 t done.performed c.requires c.if-round_follows.ensures;
-      pass = done.pass;
-    }
+pub returns-then-follows-clause-turn : goal.returns-then-follows-clause-turn
+returns-then-follows-clause-turn g c =
+    let b : round_follows c.args.call.now c.perform-answer.result.0 ≡ true = elim c.if-begins_round.branch [ then-begins_round w ↦ search rules | else-begins_round w ↦ search rules ] in
+    round_noted _ _ _ _ _ _ _ c.perform-answer.ensures.performed c.requires b _ c.add.ensures

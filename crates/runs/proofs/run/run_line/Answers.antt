@@ -1,7 +1,8 @@
 -- The line at hand is a turn, or is refused as it is read.
 use Rattle.std.proofs.Common.{◌≡◌, ℕ, ◌++◌, string_bytes, refl, ap, ◌∙◌}
 use Rattle.session.specs.State.{state}
-use Rattle.lines.specs.Reading.{ahead}
+use Rattle.reading.specs.Reading.{ahead}
+use Rattle.lines.specs.declared.faults.LineFault.TheVariants.{Word}
 use Rattle.runs.specs.Output.{refused_line}
 use Rattle.runs.specs.Runs.{answer_line}
 use Rattle.runs.proofs.Noting.{turn_line, unread_line}
@@ -24,7 +25,7 @@ pub returns-in_ok-refuse-in-Err : goal.returns-in_ok-refuse-in-Err
 returns-in_ok-refuse-in-Err g c =
     let s = state g.R.Register.meaning c.args.session.now in
     let n : c.line_number-line.result ≡ c.args.reader.now.lines = c.line_number-line.ensures in
-    let end = c.in_ok-refuse-in-Err.ensures ∙ ap (λ (i : ℕ). string_bytes c.args.out.now ++ refused_line i c.in-Err.fault) n in
+    let end = (rw c.from.ensures at c.in_ok-refuse-in-Err.ensures) ∙ ap (λ (i : ℕ). string_bytes c.args.out.now ++ refused_line i (Word c.in-Err.fault)) n in
     record {
       line = (unread_line s s (ahead c.args.reader.now) c.args.reader.now.lines c.args.reader.now.words c.in-Err.fault (string_bytes c.args.out.now) (string_bytes c.refuse.new.out) c.requires.words_value c.in-Err.ensures.call refl end, c.requires.number_value);
       stays = c.in-Err.ensures.stays;

@@ -1,14 +1,8 @@
-use Rattle.std.proofs.Common.{rules}
-use Rattle.script.specs.Reading.{ahead}
-use Rattle.script.proofs.Letters.{notice_by, request_by}
+use Rattle.script.proofs.Letters.{by_letter}
 use Rattle.script.proofs.lines.call_line.Goals as goal
 
-pub returns-in-N : goal.returns-in-N
-returns-in-N g c =
-    let l = c.in-Some.ensures in
-    record { line = notice_by _ _ c.in-Some.letter (ahead c.args.reader.now) _ _ l.is l.rest c.in-N.is c.notice_line.ensures.line; stays = search rules }
+pub returns-in-N-clause-line : goal.returns-in-N-clause-line
+returns-in-N-clause-line g c = by_letter _ _ c.args.reader.now c.letter.new.self _ _ _ c.letter.ensures c.in_ok-letter.ensures.ok_part (rw c.in-N.is c.notice_line.ensures.line)
 
-pub returns-in-X : goal.returns-in-X
-returns-in-X g c =
-    let l = c.in-Some.ensures in
-    record { line = request_by _ _ c.in-Some.letter (ahead c.args.reader.now) _ _ l.is l.rest c.in-X.is c.request_line.ensures.line; stays = search rules }
+pub returns-in-X-clause-line : goal.returns-in-X-clause-line
+returns-in-X-clause-line g c = by_letter _ _ c.args.reader.now c.letter.new.self _ _ _ c.letter.ensures c.in_ok-letter.ensures.ok_part (rw c.in-X.is c.request_line.ensures.line)

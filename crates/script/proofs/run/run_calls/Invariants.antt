@@ -1,10 +1,11 @@
 use Rattle.std.proofs.Common.{length, string_bytes}
-use Rattle.script.specs.Reading.{below}
-use Rattle.script.specs.Running.{Printed, CallsBelow}
+use Rattle.reading.specs.Reading.{below}
+use Rattle.reading.specs.Running.{Printed, CallsBelow}
+use Rattle.script.specs.Runs.{Calls}
 use Rattle.script.proofs.run.run_calls.Given as goal
 
-abbrev pub invariant-loop-heap : goal.invariant-loop-heap
-invariant-loop-heap g l = Printed (CallsBelow (g.R.Register.meaning l.initial.register) l.initial.reader) (CallsBelow (g.R.Register.meaning l.register) l.reader) (string_bytes l.initial.out) (string_bytes l.out)
+abbrev pub invariant-loop-register : goal.invariant-loop-register
+invariant-loop-register g l = Printed (CallsBelow Calls (g.R.Register.meaning l.initial.register) l.initial.reader) (CallsBelow Calls (g.R.Register.meaning l.register) l.reader) (string_bytes l.initial.out) (string_bytes l.out)
 
-abbrev pub decreases-loop-heap : goal.decreases-loop-heap
-decreases-loop-heap g l = length (below l.reader)
+abbrev pub decreases-loop-register : goal.decreases-loop-register
+decreases-loop-register g l = length (below l.reader)

@@ -1,14 +1,14 @@
 -- How `Book::append` meets its contract.
-use Rattle.std.proofs.Common.{◌≡◌, length, sym, subst, rules}
+use Rattle.std.proofs.Common.{◌≡◌, ◌+◌, set, sym, subst, arith}
+use Rattle.std.proofs.lemmas.Grind.{common_steps}
 use Rattle.book.specs.Orderly.{Orderly}
-use Rattle.book.specs.Places.{orders}
-use Rattle.book.proofs.Fronts.{one_more}
+use Rattle.book.specs.Places.{orders, appended}
 use Rattle.book.proofs.Orderliness.{orderly_appended}
 use Rattle.book.proofs.places.Book.append.Goals as goal
 
-pub returns-then-n-lt-PLACES : goal.returns-then-n-lt-PLACES
-returns-then-n-lt-PLACES c =
+pub returns-then-n-lt-PLACES-clause-orderly : goal.returns-then-n-lt-PLACES-clause-orderly
+returns-then-n-lt-PLACES-clause-orderly c =
     let b = c.args.self.now in
-    let l : length b.rows ≡ 128 = search rules in
-    let e = one_more b.rows b.len c.len-n.result c.args.order l c.len-n.ensures.count c.if-n-lt-PLACES.true in
-    record { answer = search rules; after = e; orderly = λ h f k. subst Orderly (sym e) (orderly_appended (orders b) c.args.order h f k) }
+    let n = c.len-n.result in
+    let e : orders (record { rows = set b.rows n c.args.order; len = n + 1 }) ≡ appended (orders b) c.args.order = grind (arith, common_steps) in
+    λ h f k. subst Orderly (sym e) (orderly_appended (orders b) c.args.order h f k)

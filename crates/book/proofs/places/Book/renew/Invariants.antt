@@ -5,5 +5,5 @@ use Rattle.book.specs.Trades.{renewable}
 use Rattle.book.specs.Places.{orders}
 use Rattle.book.proofs.places.Book.renew.Given as goal
 
-abbrev pub invariant-loop-i : goal.invariant-loop-i
-invariant-loop-i l = orders l.left ≡ filter shows (orders l.self) ++ map next_slice (filter renewable (take l.i (orders l.self)))
+abbrev pub invariant-loop-row : goal.invariant-loop-row
+invariant-loop-row l = orders l.self ≡ filter shows l.row-items ++ map next_slice (filter renewable (take l.row-index l.row-items))

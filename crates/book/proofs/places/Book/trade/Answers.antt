@@ -1,5 +1,5 @@
 -- How `Book::trade` meets its contract.
-use Rattle.std.proofs.Common.{◌≡◌, sym, refl, ap, ◌∙◌, subst}
+use Rattle.std.proofs.Common.{◌≡◌, sym, ap, ◌∙◌, subst, rules}
 use Rattle.book.specs.Orderly.{Orderly}
 use Rattle.book.specs.Places.{orders}
 use Rattle.book.specs.Trades.{renewable, renewed_by, settled_rows}
@@ -19,5 +19,5 @@ returns c =
       rows = e;
       orderly = λ h. subst Orderly (sym (e ∙ settled_same b s q os h.fit)) (orderly_settled b s q os h);
       iced = all_iced os;
-      examples = record { first = refl; second = refl; third = refl; gone = refl; both = refl; two_pass = refl; three_fail = refl };
+      examples = search rules;
     }

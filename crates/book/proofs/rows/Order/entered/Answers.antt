@@ -4,11 +4,8 @@ use Rattle.std.proofs.lemmas.Int.{to_z-of_z}
 use Rattle.book.proofs.Accepting.{accepted}
 use Rattle.book.proofs.rows.Order.entered.Goals as goal
 
-pub returns : goal.returns
-returns c =
+pub returns-clause-fit : goal.returns-clause-fit
+returns-clause-fit c =
     let t = c.args.terms.now in
     let f : SFits w32 t.limit = search rules in
-    record {
-      order = simp (to_z-of_z, c.first_slice.ensures);
-      fit = λ h. simp (to_z-of_z, c.first_slice.ensures) (accepted c.args.number c.args.member c.args.contract c.args.area t h);
-    }
+    λ h. simp (to_z-of_z, c.first_slice.ensures) (accepted c.args.number c.args.member c.args.contract c.args.area t h)

@@ -6,11 +6,11 @@ use Rattle.session.proofs.Falling.{total_open}
 use Rattle.session.proofs.Running.{Going}
 use Rattle.session.proofs.state.Session.finish_round.Given as goal
 
-abbrev pub invariant-loop-made : goal.invariant-loop-made
-invariant-loop-made g l =
+abbrev pub invariant-loop-trade : goal.invariant-loop-trade
+invariant-loop-trade g l =
     (length l.places ≡ 16)
     × (l.pass.number ≡ l.initial.pass.number)
     × Going g.L.TradeLog.notes (state g.R.Register.meaning l.initial.self) l.initial.pass.number l.initial.log l.log (state g.R.Register.meaning l.self)
 
-abbrev pub decreases-loop-made : goal.decreases-loop-made
-decreases-loop-made g l = total_open (orders l.self.book)
+abbrev pub decreases-loop-trade : goal.decreases-loop-trade
+decreases-loop-trade g l = total_open (orders l.self.book)

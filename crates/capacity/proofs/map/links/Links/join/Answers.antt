@@ -15,12 +15,8 @@ invariant_of-self c =
     let more = count_set js c.args.from c.args.to (omega arith) (omega arith) (search rules) len free in
     record { counted = rw (c.min-low.ensures, c.max-high.ensures) (ap (λ n. n + 1) was ∙ sym more); few = omega arith }
 
-pub returns : goal.returns
-returns c =
+pub returns-clause-after : goal.returns-clause-after
+returns-clause-after c =
     let js = c.args.self.now.joined in
     let len : length js ≡ 256 = search rules in
-    let free : linked js c.args.from c.args.to ≡ false = search rules in
-    record {
-      after = rw (c.min-low.ensures, c.max-high.ensures) (fun_ext (λ a. fun_ext (λ b. linked_set js c.args.from c.args.to (omega arith) (omega arith) (search rules) len a b)));
-      count = rw (c.min-low.ensures, c.max-high.ensures) (count_set js c.args.from c.args.to (omega arith) (omega arith) (search rules) len free);
-    }
+    rw (c.min-low.ensures, c.max-high.ensures) (fun_ext (λ a. fun_ext (λ b. linked_set js c.args.from c.args.to (omega arith) (omega arith) (search rules) len a b)))

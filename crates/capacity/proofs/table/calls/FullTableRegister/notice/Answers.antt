@@ -1,32 +1,42 @@
--- A notice to the table that no test refuses.
-use Rattle.std.proofs.Common.{◌≡◌, ◌≤◌, true, length, ◌∙◌, arith, rules}
-use Rattle.capacity.specs.Tables.{linked, full}
+-- A notice to the table: refused by its tests, or written.
+use Rattle.std.proofs.Common.{Err, refl, ap, ◌∙◌}
+use Rattle.std.proofs.lemmas.Result.{err_from_is_err_and}
 use Rattle.capacity.specs.Answers.{notice_tests}
-use Rattle.capacity.proofs.Lists.{few_set}
-use Rattle.capacity.proofs.Passes.{passes_answered, passes_resulting}
-use Rattle.capacity.proofs.Filled.{on_known, full_noticed, notice_passes}
+use Rattle.capacity.specs.Shapes.{table_of}
+use Rattle.capacity.specs.Soundness.{table_sound}
+use Rattle.capacity.specs.Tables.{linked}
+use Rattle.capacity.proofs.Calls.{refused, notice_served, notice_leaves}
+use Rattle.capacity.proofs.Filled.{served_noted}
 use Rattle.capacity.proofs.table.calls.FullTableRegister.notice.Goals as goal
 
-pub invariant_of-self : goal.invariant_of-self
-invariant_of-self c =
+pub returns-in_err-check_notice : goal.returns-in_err-check_notice
+returns-in_err-check_notice c =
     let t = c.args.self.now in
-    record { few_ntc = few_set _ 99999 _ _ (few_set _ 99999 _ _ t.few_ntc (omega arith)) (omega arith); few_aac = few_set _ 99999 _ _ (few_set _ 99999 _ _ t.few_aac (omega arith)) (omega arith); few_used = t.few_used }
+    let d = c.args.direction in
+    let m = table_of t in
+    let p = err_from_is_err_and c.from_residual.result c.from_residual.ensures.1 in
+    let r = refused (notice_tests m d.contract d.from d.to c.args.figures) m _ _ _ (p.1 ∙ ap Err p.2) (c.in_err-check_notice.ensures m c.joins-joined.ensures (served_noted (linked t.links.joined) d.contract d.from d.to _ c.joins-joined.ensures)) in
+    record { answer = r.0; after = r.1 }
+
+pub pair-pair-requires : goal.pair-pair-requires
+pair-pair-requires c =
+    let t = c.args.self.now in
+    let d = c.args.direction in
+    notice_served t.links.joined (table_of t) d.contract d.from d.to c.args.figures refl (c.in_ok-check_notice.ensures (table_of t) c.joins-joined.ensures (served_noted (linked t.links.joined) d.contract d.from d.to _ c.joins-joined.ensures))
+
+pub put-requires : goal.put-requires
+put-requires c =
+    let t = c.args.self.now in
+    let d = c.args.direction in
+    notice_served t.links.joined (table_of t) d.contract d.from d.to c.args.figures refl (c.in_ok-check_notice.ensures (table_of t) c.joins-joined.ensures (served_noted (linked t.links.joined) d.contract d.from d.to _ c.joins-joined.ensures))
 
 pub returns : goal.returns
 returns c =
     let t = c.args.self.now in
-    let j : linked t.links.joined c.args.from c.args.to ≡ true = search rules in
-    let h : c.args.contract ≤ 23 = omega arith in
-    let o = on_known (linked t.links.joined) c.args.contract c.args.from c.args.to h j in
-    let len : length t.ntc ≡ 6144 = search rules in
-    let len_l : length t.aac ≡ 6144 = search rules in
-    let m = full (linked t.links.joined) t.ntc t.aac t.used in
-    let f = c.args.figures in
-    let p = notice_passes m c.args.contract c.args.from c.args.to f h j o (omega arith) (omega arith) (omega arith) (omega arith) in
-    let ts = notice_tests m c.args.contract c.args.from c.args.to f in
+    let m = table_of t in
+    let d = c.args.direction in
+    let e = c.in_ok-check_notice.ensures m c.joins-joined.ensures (served_noted (linked t.links.joined) d.contract d.from d.to _ c.joins-joined.ensures) in
     record {
-      answer = passes_answered ts p;
-      after =
-          full_noticed t.links.joined t.ntc t.aac t.used c.args.contract c.args.from c.args.to f _ _ o len len_l c.place-i.ensures c.place-j.ensures
-          ∙ passes_resulting ts m _ p;
+      answer = e;
+      after = notice_leaves m _ d.contract d.from d.to c.args.figures _ _ _ _ (table_sound t) e c.pair-pair.ensures c.noticed.ensures.there c.noticed.ensures.back c.put.ensures;
     }

@@ -1,39 +1,36 @@
 -- A take from the table: refused by its tests, or carried out.
-use Rattle.std.proofs.Common.{Err, ap, ◌∙◌}
+use Rattle.std.proofs.Common.{Err, refl, ap, ◌∙◌}
 use Rattle.std.proofs.lemmas.Result.{err_from_is_err_and}
-use Rattle.capacity.specs.Tests.{said}
-use Rattle.capacity.specs.Faults.{told}
-use Rattle.capacity.specs.Meaning.{taken}
 use Rattle.capacity.specs.Answers.{take_tests}
 use Rattle.capacity.specs.Shapes.{table_of}
-use Rattle.capacity.specs.Soundness.{linked_areas}
-use Rattle.capacity.proofs.Passes.{answered_passes, passes_resulting, refused_resulting}
-use Rattle.capacity.proofs.Layers.{passes_granted}
+use Rattle.capacity.specs.Soundness.{table_sound}
+use Rattle.capacity.proofs.Calls.{refused, take_served, take_leaves}
 use Rattle.capacity.proofs.table.calls.FullTableRegister.take.Goals as goal
 
 pub returns-in_err-check_take : goal.returns-in_err-check_take
 returns-in_err-check_take c =
+    let d = c.args.direction in
     let m = table_of c.args.self.now in
-    let ts = take_tests m c.args.contract c.args.from c.args.to c.args.quantity in
     let p = err_from_is_err_and c.from_residual.result c.from_residual.ensures.1 in
-    let e = c.in_err-check_take.ensures m c.atc-flow.ensures in
-    record { answer = ap (said told) (p.1 ∙ ap Err p.2) ∙ e; after = refused_resulting ts _ m _ e }
+    let r = refused (take_tests m d.contract d.from d.to c.args.quantity) m _ _ _ (p.1 ∙ ap Err p.2) (c.in_err-check_take.ensures m c.atc-flow.ensures) in
+    record { answer = r.0; after = r.1 }
 
-pub raise_use-requires : goal.raise_use-requires
-raise_use-requires c =
-    let m = table_of c.args.self.now in
-    let ts = take_tests m c.args.contract c.args.from c.args.to c.args.quantity in
-    let e = c.in_ok-check_take.ensures m c.atc-flow.ensures in
-    let g = passes_granted m c.args.contract c.args.from c.args.to c.args.quantity (answered_passes ts e) in
-    let a = linked_areas c.args.self.now.links.joined c.args.from c.args.to g.joined in
-    record { granted = g; areas = (a.0, a.1) }
+pub pair-pair-requires : goal.pair-pair-requires
+pair-pair-requires c =
+    let t = c.args.self.now in
+    let d = c.args.direction in
+    take_served t.links.joined (table_of t) d.contract d.from d.to c.args.quantity refl (c.in_ok-check_take.ensures (table_of t) c.atc-flow.ensures)
 
-pub returns : goal.returns
-returns c =
-    let m = table_of c.args.self.now in
-    let ts = take_tests m c.args.contract c.args.from c.args.to c.args.quantity in
+pub put-requires : goal.put-requires
+put-requires c =
+    let t = c.args.self.now in
+    let d = c.args.direction in
+    take_served t.links.joined (table_of t) d.contract d.from d.to c.args.quantity refl (c.in_ok-check_take.ensures (table_of t) c.atc-flow.ensures)
+
+pub returns-clause-after : goal.returns-clause-after
+returns-clause-after c =
+    let t = c.args.self.now in
+    let m = table_of t in
+    let d = c.args.direction in
     let e = c.in_ok-check_take.ensures m c.atc-flow.ensures in
-    record {
-      answer = e;
-      after = c.raise_use.ensures ∙ passes_resulting ts m (taken m c.args.contract c.args.from c.args.to c.args.quantity) (answered_passes ts e);
-    }
+    take_leaves m _ d.contract d.from d.to c.args.quantity _ _ _ _ (table_sound t) e c.pair-pair.ensures c.taken.ensures.there c.taken.ensures.back c.put.ensures

@@ -1,43 +1,56 @@
--- A notice to the cells that only the last test can refuse.
-use Rattle.std.proofs.Common.{◌≡◌, ◌-◌, ◌≤◌, true, length, refl, ap, ◌∙◌, arith, rules}
-use Rattle.std.proofs.lemmas.Bool.{le-ltb, not_from_true}
+-- A notice to the cells: refused by its tests, or written.
+use Rattle.std.proofs.Common.{◌≡◌, ◌-◌, ◌≤◌, Bool, true, not, ◌&&◌, eqb, length, Err, sym, refl, ap, ◌∙◌}
+use Rattle.std.proofs.lemmas.Result.{err_from_is_err_and}
+use Rattle.capacity.specs.declared.direction.Direction.{Direction}
 use Rattle.capacity.specs.Answers.{notice_tests}
-use Rattle.capacity.specs.Tables.{linked, on}
-use Rattle.capacity.proofs.Filled.{on_known, on_back, on_parts}
-use Rattle.capacity.proofs.Passes.{Passes, passes_answered, passes_resulting, refused_resulting}
-use Rattle.cells.specs.declared.side.Side.{Side}
+use Rattle.capacity.specs.Tables.{linked}
+use Rattle.capacity.proofs.Calls.{refused, notice_served, notice_leaves}
+use Rattle.capacity.proofs.Passes.{answered_passes}
+use Rattle.capacity.proofs.Sided.{on_known}
+use Rattle.cells.specs.declared.register.CellRegister.{CellRegister}
+use Rattle.cells.specs.Cells.{noted_in}
 use Rattle.cells.specs.Shapes.{in_use, cells_of}
-use Rattle.cells.proofs.Held.{finds, finds_none, last_refused, few_figures, celled_noticed}
+use Rattle.cells.specs.Soundness.{cells_sound}
+use Rattle.cells.proofs.Held.{room_left}
 use Rattle.cells.proofs.register.calls.CellRegisterRegister.notice.Goals as goal
 
-pub returns-then-find-self : goal.returns-then-find-self
-returns-then-find-self c =
-    let r = c.args.self.now in
-    let js = r.map.now.links.joined in
-    let f = c.args.figures in
-    let m = cells_of r in
-    let j : linked js c.args.from c.args.to ≡ true = search rules in
-    let h : c.args.contract ≤ 23 = omega arith in
-    let none = finds_none (on (linked js) c.args.contract c.args.from c.args.to) r.cells.now r.count c.args.contract c.args.from c.args.to (omega arith) in
-    let e = last_refused _ _ _ _ _ _ _ _ (le-ltb 23 c.args.contract h) (not_from_true _ j) (few_figures f (omega arith) (omega arith) (omega arith) (omega arith)) none in
-    record { answer = e; after = refused_resulting (notice_tests m c.args.contract c.args.from c.args.to f) _ m _ e }
+-- what the register says of a pair that exists
+room : (t : CellRegister) (d : Direction) {j full : Bool} → full ≡ (not (noted_in (in_use t) d.contract d.from d.to) && eqb (length t.cells.now - t.count) 0) → j ≡ linked t.map.now.links.joined d.from d.to → d.contract ≤ 23 → j ≡ true → full ≡ (not ((cells_of t).noted d.contract d.from d.to) && eqb (cells_of t).room 0)
+room t d e p h o = rw (on_known (linked t.map.now.links.joined) d.contract d.from d.to h (sym p ∙ o)) e
+
+pub returns-in_err-check_notice : goal.returns-in_err-check_notice
+returns-in_err-check_notice c =
+    let t = c.args.self.now in
+    let d = c.args.direction in
+    let m = cells_of t in
+    let p = err_from_is_err_and c.from_residual.result c.from_residual.ensures.1 in
+    let r = refused (notice_tests m d.contract d.from d.to c.args.figures) m _ _ _ (p.1 ∙ ap Err p.2) (c.in_err-check_notice.ensures m c.joins-joined.ensures (room t d c.full-full.ensures c.joins-joined.ensures)) in
+    record { answer = r.0; after = r.1 }
+
+pub pair-pair-requires : goal.pair-pair-requires
+pair-pair-requires c =
+    let t = c.args.self.now in
+    let d = c.args.direction in
+    notice_served t.map.now.links.joined (cells_of t) d.contract d.from d.to c.args.figures refl (c.in_ok-check_notice.ensures (cells_of t) c.joins-joined.ensures (room t d c.full-full.ensures c.joins-joined.ensures))
+
+pub put-requires : goal.put-requires
+put-requires c =
+    let t = c.args.self.now in
+    let d = c.args.direction in
+    let m = cells_of t in
+    let e = c.in_ok-check_notice.ensures m c.joins-joined.ensures (room t d c.full-full.ensures c.joins-joined.ensures) in
+    record {
+      served = notice_served t.map.now.links.joined m d.contract d.from d.to c.args.figures refl e;
+      room = room_left t.cells.now t.count d.contract d.from d.to _ (answered_passes (notice_tests m d.contract d.from d.to c.args.figures) e).1.1.1.0;
+    }
 
 pub returns : goal.returns
 returns c =
-    let r = c.args.self.now in
-    let js = r.map.now.links.joined in
-    let f = c.args.figures in
-    let m = cells_of r in
-    let j : linked js c.args.from c.args.to ≡ true = search rules in
-    let h : c.args.contract ≤ 23 = omega arith in
-    let o = on_known (linked js) c.args.contract c.args.from c.args.to h j in
-    let some = finds (on (linked js) c.args.contract c.args.from c.args.to) r.cells.now r.count c.args.contract c.args.from c.args.to o (omega arith) in
-    let ts = notice_tests m c.args.contract c.args.from c.args.to f in
-    let p : Passes ts = (le-ltb 23 c.args.contract h, (not_from_true _ j, (few_figures f (omega arith) (omega arith) (omega arith) (omega arith), (some, tt)))) in
+    let t = c.args.self.now in
+    let m = cells_of t in
+    let d = c.args.direction in
+    let e = c.in_ok-check_notice.ensures m c.joins-joined.ensures (room t d c.full-full.ensures c.joins-joined.ensures) in
     record {
-      answer = passes_answered ts p;
-      after =
-          c.store.ensures
-          ∙ celled_noticed (linked js) (in_use r) (length r.cells.now - r.count) _ f o (on_back js c.args.contract c.args.from c.args.to o) (on_parts js c.args.contract c.args.from c.args.to o).3 (ap (λ (s : Side). s.used) c.side-there.ensures.value) (ap (λ (s : Side). s.used) c.side-back.ensures.value) refl refl refl refl
-          ∙ passes_resulting ts m _ p;
+      answer = e;
+      after = notice_leaves m _ d.contract d.from d.to c.args.figures _ _ _ _ (cells_sound t) e c.pair-pair.ensures c.noticed.ensures.there c.noticed.ensures.back c.put.ensures;
     }

@@ -1,36 +1,43 @@
 -- A take from the cells: refused by its tests, or carried out.
-use Rattle.std.proofs.Common.{Err, ap, ◌∙◌}
+use Rattle.std.proofs.Common.{Err, refl, ap, ◌∙◌}
+use Rattle.std.proofs.lemmas.Bool.{and_parts, both_ways}
 use Rattle.std.proofs.lemmas.Result.{err_from_is_err_and}
-use Rattle.capacity.specs.Tests.{said}
-use Rattle.capacity.specs.Faults.{told}
-use Rattle.capacity.specs.Meaning.{taken}
 use Rattle.capacity.specs.Answers.{take_tests}
-use Rattle.capacity.proofs.Passes.{answered_passes, passes_resulting, refused_resulting}
-use Rattle.capacity.proofs.Layers.{passes_granted}
-use Rattle.cells.specs.Shapes.{cells_of}
+use Rattle.capacity.proofs.Calls.{refused, take_served, take_noted, take_leaves}
+use Rattle.cells.specs.Shapes.{in_use, cells_of}
+use Rattle.cells.specs.Soundness.{cells_sound}
+use Rattle.cells.proofs.Held.{noted_none}
 use Rattle.cells.proofs.register.calls.CellRegisterRegister.take.Goals as goal
 
 pub returns-in_err-check_take : goal.returns-in_err-check_take
 returns-in_err-check_take c =
+    let d = c.args.direction in
     let m = cells_of c.args.self.now in
-    let ts = take_tests m c.args.contract c.args.from c.args.to c.args.quantity in
     let p = err_from_is_err_and c.from_residual.result c.from_residual.ensures.1 in
-    let e = c.in_err-check_take.ensures m c.atc-flow.ensures in
-    record { answer = ap (said told) (p.1 ∙ ap Err p.2) ∙ e; after = refused_resulting ts _ m _ e }
+    let r = refused (take_tests m d.contract d.from d.to c.args.quantity) m _ _ _ (p.1 ∙ ap Err p.2) (c.in_err-check_take.ensures m c.atc-flow.ensures) in
+    record { answer = r.0; after = r.1 }
 
-pub raise_use-requires : goal.raise_use-requires
-raise_use-requires c =
-    let m = cells_of c.args.self.now in
-    let ts = take_tests m c.args.contract c.args.from c.args.to c.args.quantity in
-    let e = c.in_ok-check_take.ensures m c.atc-flow.ensures in
-    passes_granted m c.args.contract c.args.from c.args.to c.args.quantity (answered_passes ts e)
+pub pair-pair-requires : goal.pair-pair-requires
+pair-pair-requires c =
+    let t = c.args.self.now in
+    let d = c.args.direction in
+    take_served t.map.now.links.joined (cells_of t) d.contract d.from d.to c.args.quantity refl (c.in_ok-check_take.ensures (cells_of t) c.atc-flow.ensures)
 
-pub returns : goal.returns
-returns c =
-    let m = cells_of c.args.self.now in
-    let ts = take_tests m c.args.contract c.args.from c.args.to c.args.quantity in
-    let e = c.in_ok-check_take.ensures m c.atc-flow.ensures in
+pub put-requires : goal.put-requires
+put-requires c =
+    let t = c.args.self.now in
+    let d = c.args.direction in
+    let e = c.in_ok-check_take.ensures (cells_of t) c.atc-flow.ensures in
+    let noted = take_noted (cells_of t) d.contract d.from d.to c.args.quantity (cells_sound t) e in
     record {
-      answer = e;
-      after = c.raise_use.ensures ∙ passes_resulting ts m (taken m c.args.contract c.args.from c.args.to c.args.quantity) (answered_passes ts e);
+      served = take_served t.map.now.links.joined (cells_of t) d.contract d.from d.to c.args.quantity refl e;
+      room = λ none. absurd (both_ways _ (noted_none (in_use t) d.contract d.from d.to none) (and_parts _ _ noted).1);
     }
+
+pub returns-clause-after : goal.returns-clause-after
+returns-clause-after c =
+    let t = c.args.self.now in
+    let m = cells_of t in
+    let d = c.args.direction in
+    let e = c.in_ok-check_take.ensures m c.atc-flow.ensures in
+    take_leaves m _ d.contract d.from d.to c.args.quantity _ _ _ _ (cells_sound t) e c.pair-pair.ensures c.taken.ensures.there c.taken.ensures.back c.put.ensures

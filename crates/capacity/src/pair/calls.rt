@@ -1,0 +1,86 @@
+// What can flow in a pair, and what a take and a notice make of it.
+ghost use Rattle.std.specs.Prelude.{◌≡◌, cond, pos, int_lt};
+ghost use Rattle.capacity.specs.Sides.{no_side};
+ghost use Rattle.capacity.specs.Pairs.{flow, taken_there, taken_back, figured};
+ghost use Rattle.capacity.specs.Answers.{large};
+
+use crate::figures::Figures;
+use crate::pair::Pair;
+use crate::side::Side;
+
+impl Pair {
+    // Nothing can flow and nothing was taken.
+    pub fn none() -> Pair
+        ensures { (result.there ≡ no_side) × (result.back ≡ no_side) }
+    {
+        Pair {
+            there: Side::NONE,
+            back: Side::NONE,
+        }
+    }
+
+    // The same pair, seen from the other area.
+    pub fn turned(self) -> Pair
+        ensures { (result.there ≡ self.back) × (result.back ≡ self.there) }
+    {
+        Pair {
+            there: self.back,
+            back: self.there,
+        }
+    }
+
+    // What can still flow there.
+    pub fn atc(self) -> i32
+        ensures { result ≡ flow self.there self.back }
+    {
+        let gain = self.there.ntc + self.back.aac + self.back.used;
+        let loss = self.there.aac + self.there.used;
+        // `as`, since both are below 2^31: `try_from` would add a refusal that cannot be.
+        gain as i32 - loss as i32
+    }
+
+    // After a take there, which first frees what was taken back; as it was if less can flow.
+    pub fn taken(self, quantity: u32) -> Pair
+        ensures there { result.there ≡ cond (int_lt (flow self.there self.back) (pos quantity)) self.there (taken_there self.there self.back quantity) }
+        ensures back { result.back ≡ cond (int_lt (flow self.there self.back) (pos quantity)) self.back (taken_back self.back quantity) }
+    {
+        if i64::from(self.atc()) < i64::from(quantity) {
+            return self;
+        }
+        let Pair { there, back } = self;
+        let freed = back.used.min(quantity);
+        Pair {
+            there: Side {
+                used: there.used + (quantity - freed),
+                ..there
+            },
+            back: Side {
+                used: back.used - freed,
+                ..back
+            },
+        }
+    }
+
+    // After a notice; as it was if a figure is above 99,999.
+    pub fn noticed(self, figures: Figures) -> Pair
+        ensures there { result.there ≡ cond (large figures) self.there (figured self.there figures.ntc figures.aac) }
+        ensures back { result.back ≡ cond (large figures) self.back (figured self.back figures.ntc_back figures.aac_back) }
+    {
+        if figures.large() {
+            return self;
+        }
+        let Pair { there, back } = self;
+        Pair {
+            there: Side {
+                ntc: figures.ntc,
+                aac: figures.aac,
+                ..there
+            },
+            back: Side {
+                ntc: figures.ntc_back,
+                aac: figures.aac_back,
+                ..back
+            },
+        }
+    }
+}

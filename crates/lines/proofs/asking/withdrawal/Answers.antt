@@ -1,0 +1,10 @@
+-- The counts of the line are what is asked for.
+use Rattle.std.proofs.Common.{refl}
+use Rattle.reading.specs.Making.{sizes}
+use Rattle.reading.specs.Reading.{ahead}
+use Rattle.reading.proofs.Made.{made}
+use Rattle.lines.specs.Asking.{withdrawal_fields, withdrawal}
+use Rattle.lines.proofs.asking.withdrawal.Goals as goal
+
+pub returns-clause-call : goal.returns-clause-call
+returns-clause-call c = made withdrawal c.args.reader.now.words withdrawal_fields sizes (ahead c.args.reader.now) c.in_ok-counts.counts _ c.in_ok-counts.ensures.counts refl

@@ -1,0 +1,23 @@
+-- How `best` meets its contract.
+use Rattle.std.proofs.Common.{◌≡◌, ℕ, ◌+◌, ◌<◌, length, sym, subst, arith}
+use Rattle.book.specs.Places.{orders}
+use Rattle.matching.specs.Bests.{Passes}
+use Rattle.matching.proofs.Ranked.{passes_past, passes_more}
+use Rattle.matching.proofs.choice.best.Goals as goal
+use Rattle.matching.proofs.choice.best.Goals.{then-test, else-test}
+
+pub loop-at-preserved : goal.loop-at-preserved
+loop-at-preserved g c =
+    let T = goal.F-post g c.args.test in
+    let os = orders c.args.book.now in
+    let k : ℕ = c.loop-at.at in
+    let i : k < length os = omega (arith, c.len-n.ensures.count) in
+    elim c.if-test.branch [
+      | then-test w ↦ subst (Passes T os (k + 1)) (sym w.best-is) (passes_more T os c.requires.one_side c.loop-at.best k w.higher.result c.loop-at.invariant i w.if-test.ensures w.higher.ensures)
+      | else-test w ↦ subst (Passes T os (k + 1)) (sym w.best-is) (passes_past T os c.loop-at.best k c.loop-at.invariant w.if-test.ensures)
+    ]
+
+pub returns : goal.returns
+returns g c =
+    let e : c.loop-at.at ≡ length (orders c.args.book.now) = omega (arith, c.len-n.ensures.count) in
+    subst (λ n. Passes (goal.F-post g c.args.test) (orders c.args.book.now) n c.loop-at.best) e c.loop-at.invariant

@@ -1,0 +1,9 @@
+-- The definitions that the contracts cite.
+pub mod Text
+pub mod Reading
+pub mod Faults
+pub mod Fields
+pub mod Output
+pub mod Making
+pub mod Runs
+pub mod Running

@@ -1,0 +1,13 @@
+-- A request is a call that the register answers by the tests of a take.
+use Rattle.std.proofs.Common.{◌∙◌, rules}
+use Rattle.capacity.specs.Answers.{take_tests}
+use Rattle.capacity.specs.Meaning.{taken}
+use Rattle.session.specs.State.{State, state}
+use Rattle.session.proofs.state.Session.request.Goals as goal
+
+pub returns : goal.returns
+returns g c =
+    let s : State = state g.R.Register.meaning c.args.self.now in
+    let d = c.args.direction in
+    let asked = c.ask-checked.ensures (take_tests s.capacity d.contract d.from d.to c.args.quantity) (taken s.capacity d.contract d.from d.to c.args.quantity) (λ a r h. search rules) in
+    record { answer = c.into_round.ensures.answer ∙ asked.0; after = asked.1; pass = c.into_round.ensures.pass }
