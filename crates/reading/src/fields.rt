@@ -21,7 +21,7 @@ pub const COUNT: Field = Field::Count(Unit::Count);
 pub const POWER: Field = Field::Count(Unit::Megawatt);
 
 impl Field {
-    // The number that a word is, nought for letters.
+    // The number that a word is; nought for letters, which fill a place of the array that no caller reads.
     fn read(self, word: &[u8]) -> Result<i32, NumberFault>
         ensures { WordAnswers self word.now result }
     {
@@ -38,7 +38,7 @@ impl Field {
 }
 
 // Numbers without their signs.
-// A loop, as an array's `map` and `try_map` require that it fits in memory once more, and no call here may require anything.
+// A loop: tried as `array::from_fn`, whose proof did not close; `map` and `try_map` require that it fits in memory once more.
 pub fn sizes<const N: usize>(numbers: [i32; N]) -> [u32; N]
     ensures { result ≡ sizes numbers.entry }
 {

@@ -7,7 +7,7 @@ use std::env;
 use std::fs::File;
 use std::io::{Read, Write};
 
-// One byte more than a script may have is enough to see that it is too long.
+// One byte more than a script may have is enough to see that it is too long. `as`: there is no From of usize for u64.
 const READ_MOST: u64 = SCRIPT_MOST as u64 + 1;
 
 fn read_some<T: Read + Drop>(rt: &HostRuntime, source: T) -> anyhow::Result<Vec<u8>> {

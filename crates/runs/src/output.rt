@@ -8,6 +8,7 @@ use std::fmt::Write;
 use trades::Trade;
 
 // Prints all of a trade but its route.
+// Functions and no Display, as in `numbers`: price and quantity are printed with a unit that the trade does not hold.
 fn print_deal(
     out: &mut String,
     contract: u32,

@@ -31,6 +31,7 @@ use std::alloc::{AllocError, Global};
 const SESSION_NUMBER: u32 = 1;
 
 // Makes a call, runs its round to its end and prints its trades.
+// The parameters here and below are those of `perform`, with reader and text, which stay two as in `reading::running`.
 fn take_turn<R: Register>(
     session: &mut Session<R>,
     pass: QuietPass,
@@ -113,7 +114,7 @@ fn run_calls<R: Register + Drop>(
     Ok(())
 }
 
-// Calls are made on a session over the register.
+// Calls are made on a session over the register. The method only calls the function above, which holds of any register.
 struct OverSession;
 
 impl CallRunner for OverSession {

@@ -14,7 +14,7 @@ use reading::reader::Reader;
 use reading::running::CallRunner;
 use std::alloc::{AllocError, Global};
 
-// Runs the line at hand over a register.
+// Runs the line at hand over a register. Reader and text stay two parameters here and below, as in `reading::running`.
 fn run_call_line<R: Register>(
     register: &mut R,
     reader: &mut Reader,
@@ -43,7 +43,7 @@ fn run_calls<R: Register>(
     Ok(())
 }
 
-// Calls are carried out over the register alone.
+// Calls are carried out over the register alone. The method only calls the function above, which holds of any register.
 struct OverRegister;
 
 impl CallRunner for OverRegister {

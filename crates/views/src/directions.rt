@@ -36,6 +36,7 @@ impl<'a, R: Register> View for Directions<'a, R> {
     fn line(&self, place: usize) -> Option<CapacityLine> {
         let direction = Direction {
             contract: self.contract,
+            // `as`: a place is below 256
             from: place as u32 / AREAS,
             to: place as u32 % AREAS,
         };
