@@ -1,6 +1,7 @@
 #!/usr/bin/env bash
 # Proves every listed crate from nothing, tries every must-fail edit, runs the programs and the tests (rt ci);
-# then tries the programs under refused/, which must not compile. Its last line is the tally of both.
+# then runs the program on every script of samples/, and tries the programs under refused/, which must not compile.
+# Its last line is the tally of all.
 set -u
 cd "$(dirname "$0")" || exit 2
 
@@ -25,6 +26,21 @@ if grep -q '^rt: ok.*, [1-9][0-9]* bad' "$log"; then
     failed=$((failed + 1))
     echo "test.sh: a must-fail edit is bad"
 fi
+
+# Beside each script of samples/ stands what the program must print of it, and for some the views that it must show.
+(cd crates/rounds && rt run) </dev/null >"$work/rounds.log" 2>&1 || tail -n 8 "$work/rounds.log"
+for script in samples/*.ctm; do
+    name=$(basename "$script" .ctm)
+    crates/rounds/out/rounds "$script" >"$work/printed" 2>&1
+    if [ -s "$work/printed" ] && cmp -s "$work/printed" "samples/$name.out"; then
+        passed=$((passed + 1))
+        echo "samples/$name: printed as it must be"
+    else
+        failed=$((failed + 1))
+        echo "samples/$name: NOT PRINTED as it must be:"
+        diff "$work/printed" "samples/$name.out" | head -n 8
+    fi
+done
 
 # A text under refused/ names in its first two lines the error it must meet and the crates it stands on,
 # and marks by '// refused here' the line at which the compiler must stop. Each is tried as a crate of its own,

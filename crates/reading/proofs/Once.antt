@@ -1,24 +1,13 @@
--- A line is read in one way, and a script prints one text where its calls do.
-use Rattle.std.proofs.Common.{◌≡◌, ℕ, zero, suc, ◌+◌, cond, false, true, eqb, List, [], ◌∷◌, ◌++◌, length, ℤ, Ok, Err, Result, sym, refl, ap, ◌∙◌, subst, inl, inr, arith}
+-- A line is read in one way.
+use Rattle.std.proofs.Common.{◌≡◌, ℕ, zero, suc, ◌+◌, false, true, List, [], ◌∷◌, length, ℤ, Ok, Err, Result, sym, refl, ap, ◌∙◌}
 use Rattle.numbers.specs.declared.NumberFault.{NumberFault}
 use Rattle.numbers.proofs.Once.{one_answer}
-use Rattle.capacity.specs.declared.faults.MapFault.{MapFault}
-use Rattle.capacity.specs.declared.faults.MapFault.TheVariants.{Kept, Connector}
-use Rattle.capacity.specs.Faults.{MapRefusal, map_told}
-use Rattle.capacity.specs.Meaning.{Capacity}
-use Rattle.capacity.specs.Network.{Network, no_network, connect_tests, connected}
-use Rattle.capacity.specs.Tests.{said}
 use Rattle.reading.specs.declared.faults.WordFault.{WordFault}
 use Rattle.reading.specs.declared.faults.WordFault.TheVariants.{Form, Number}
-use Rattle.reading.specs.declared.faults.LinkFault.TheVariants.{Word, Map}
 use Rattle.reading.specs.declared.fields.Field.{Field}
 use Rattle.reading.specs.declared.fields.Field.TheVariants.{Count, Signed, Letters}
-use Rattle.reading.specs.declared.links.Link.{Link}
-use Rattle.reading.specs.Text.{lines, words}
-use Rattle.reading.specs.Fields.{WordAnswers, Read, Faulty, Numbers, after_letter}
-use Rattle.reading.specs.Making.{Makes, sizes, link_fields, link}
-use Rattle.reading.specs.Output.{mark_line}
-use Rattle.reading.specs.Runs.{upward, Decided, Linked, MapLine, map_printed, Calling, register_on, Maps, Headed, ComesTo, Prints}
+use Rattle.reading.specs.Fields.{WordAnswers, Read, Faulty, Numbers}
+use Rattle.reading.specs.Making.{Makes}
 
 -- ---- one word
 
@@ -88,68 +77,3 @@ one_making i us make ws (Ok x) (Ok y) (zs, (h, e)) (zs', (k, e')) = let same = o
 one_making i us make ws (Ok x) (Err g) (zs, (h, e)) k = let same = one_reading i us ws (Ok zs) (Err g) h k in cc
 one_making i us make ws (Err f) (Ok y) h (zs, (k, e)) = let same = one_reading i us ws (Err f) (Ok zs) h k in cc
 one_making i us make ws (Err f) (Err g) h k = let same = one_reading i us ws (Err f) (Err g) h k in cc
-
--- ---- the lines of the map
-
--- no two faults of a map tell the same
-abbrev map_fault : MapRefusal → MapFault
-map_fault r = cond (eqb r.number 12) (Kept r.from r.to) (Connector r.from r.to)
-
-map_fault_told : (f : MapFault) → map_fault (map_told f) ≡ f
-map_fault_told (Kept a b) = refl
-map_fault_told (Connector a b) = refl
-
-same_said : (a b : Result (Unit {0}) MapFault) → said map_told a ≡ said map_told b → a ≡ b
-same_said (Ok x) (Ok y) e = refl
-same_said (Ok x) (Err g) e = absurd (not_both tt (map_told g) e)
-same_said (Err f) (Ok y) e = absurd (not_both tt (map_told f) (sym e))
-same_said (Err f) (Err g) e = let told : map_told f ≡ map_told g = cc in ap Err (sym (map_fault_told f) ∙ ap map_fault told ∙ map_fault_told g)
-
--- the map takes the connector, or refuses it
-abbrev Connects : Network → Link → Linked → Network → Type 0
-Connects m x r m' = Decided map_told Map (connect_tests m x.from x.to x.held x.held_back) m (connected m x.from x.to x.held x.held_back) r m'
-
-one_connecting : (m : Network) (x : Link) (r r' : Linked) (m₁ m₂ : Network) → Connects m x r m₁ → Connects m x r' m₂ → (r ≡ r') × (m₁ ≡ m₂)
-one_connecting m x r r' m₁ m₂ h k =
-    (h.outcome ∙ ap (upward Map) (same_said h.answer k.answer (h.as_told ∙ sym k.as_told)) ∙ sym k.outcome, h.after ∙ sym k.after)
-
-one_map_line : (m : Network) (ws : List (List ℕ)) (r r' : Linked) (m₁ m₂ : Network) → MapLine 1 m ws r m₁ → MapLine 1 m ws r' m₂ → (r ≡ r') × (m₁ ≡ m₂)
-one_map_line m ws r r' m₁ m₂ (inl (e, (makes, is, after))) (inl (e', (makes', is', after'))) =
-    let made = one_making 1 link_fields (λ zs. link (sizes zs)) ws (Err e) (Err e') makes makes' in
-    let fault : e ≡ e' = cc in
-    (is ∙ ap (λ z. Err (Word z)) fault ∙ sym is', after ∙ sym after')
-one_map_line m ws r r' m₁ m₂ (inl (e, (makes, is, after))) (inr (x, (makes', connects))) = absurd (not_both x e (one_making 1 link_fields (λ zs. link (sizes zs)) ws (Ok x) (Err e) makes' makes))
-one_map_line m ws r r' m₁ m₂ (inr (x, (makes, connects))) (inl (e, (makes', is, after))) = absurd (not_both x e (one_making 1 link_fields (λ zs. link (sizes zs)) ws (Ok x) (Err e) makes makes'))
-one_map_line m ws r r' m₁ m₂ (inr (x, (makes, connects))) (inr (x', (makes', connects'))) =
-    let made = one_making 1 link_fields (λ zs. link (sizes zs)) ws (Ok x) (Ok x') makes makes' in
-    let same : x ≡ x' = cc in
-    one_connecting m x r r' m₁ m₂ connects (subst (λ (y : Link). Connects m y r' m₂) (sym same) connects')
-
--- ---- the whole script, where calls print one text
-
-module _ (C : Calling) (once : (m : Capacity) (n : ℕ) (ls : List (List ℕ)) (out out' : List ℕ) → C m n ls out → C m n ls out' → out ≡ out') where
-  one_map : (ls : List (List ℕ)) (m : Network) (n : ℕ) (out out' : List ℕ) → Maps C m n ls out → Maps C m n ls out' → out ≡ out'
-  one_map [] m n out out' h k = once (register_on m) n [] out out' h k
-  one_map (l ∷ ls) m n out out' (inl (letter, (r, m₁, more, (line, text, rest)))) (inl (letter', (r', m₂, more', (line', text', rest')))) =
-      let (outcome, after) = one_map_line m (after_letter (words l)) r r' m₁ m₂ line line' in
-      let others : more ≡ more' = one_map ls m₁ (n + 1) more more' rest (subst (λ (z : Network). Maps C z (n + 1) ls more') (sym after) rest') in
-      text ∙ ap (λ (z : Linked). map_printed n z ++ more) outcome ∙ ap (λ (z : List ℕ). map_printed n r' ++ z) others ∙ sym text'
-  one_map (l ∷ ls) m n out out' (inl h) (inr k) = absurd (k.0 h.0)
-  one_map (l ∷ ls) m n out out' (inr h) (inl k) = absurd (h.0 k.0)
-  one_map (l ∷ ls) m n out out' (inr h) (inr k) = once (register_on m) n (l ∷ ls) out out' h.1 k.1
-
-  one_heading : (ls : List (List ℕ)) (out out' : List ℕ) → Headed C ls out → Headed C ls out' → out ≡ out'
-  one_heading [] out out' h k = h ∙ sym k
-  one_heading (l ∷ ls) out out' (inl h) (inl k) = one_map ls no_network 2 out out' h.1 k.1
-  one_heading (l ∷ ls) out out' (inl h) (inr k) = absurd (k.0 h.0)
-  one_heading (l ∷ ls) out out' (inr h) (inl k) = absurd (h.0 k.0)
-  one_heading (l ∷ ls) out out' (inr h) (inr k) = h.1 ∙ sym k.1
-
-  one_coming : (script out out' : List ℕ) → ComesTo C script out → ComesTo C script out' → out ≡ out'
-  one_coming script out out' (inl h) (inl k) = h.1 ∙ sym k.1
-  one_coming script out out' (inl h) (inr k) = absurd (omega (arith, h.0, k.0))
-  one_coming script out out' (inr h) (inl k) = absurd (omega (arith, h.0, k.0))
-  one_coming script out out' (inr h) (inr k) = one_heading (lines script) out out' h.1 k.1
-
-  pub one_print : (script out out' : List ℕ) → Prints C script out → Prints C script out' → out ≡ out'
-  one_print script out out' (rest, (text, comes)) (rest', (text', comes')) = text ∙ ap (λ (z : List ℕ). mark_line ++ z) (one_coming script rest rest' comes comes') ∙ sym text'

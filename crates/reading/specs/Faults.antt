@@ -1,5 +1,5 @@
--- The number of each refusal of a line, and the place of the word at fault.
-use Rattle.std.specs.Prelude.{ℕ, Some, None, Option}
+-- The number of each refusal of a line, the place of the word at fault, and how a fault of what stands below is carried upward.
+use Rattle.std.specs.Prelude.{ℕ, Some, None, Ok, Err, Option, Result}
 use Rattle.capacity.specs.Faults.{map_told}
 use Rattle.numbers.specs.Reading.{fault_number}
 use Rattle.reading.specs.declared.faults.WordFault.{WordFault}
@@ -23,3 +23,8 @@ link_number (Map f) = (map_told f).number
 abbrev pub link_place : LinkFault → Option ℕ
 link_place (Word f) = word_place f
 link_place (Map f) = None
+
+-- an answer of what stands below, its fault carried upward whole
+abbrev pub upward : {F G : Type 0} → (F → G) → Result (Unit {0}) F → Result (Unit {0}) G
+upward up (Ok x) = Ok tt
+upward up (Err f) = Err (up f)

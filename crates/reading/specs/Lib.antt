@@ -5,5 +5,3 @@ pub mod Faults
 pub mod Fields
 pub mod Output
 pub mod Making
-pub mod Runs
-pub mod Running

@@ -48,8 +48,8 @@ impl Refusal for WordFault {
     }
 }
 
-// Why an M line is refused. An enum of its own, as the faults of call lines are in `script` and `lines`: `From<F>` of a generic one
-// would overlap that of `WordFault`, and `?` needs both.
+// Why an M line is refused. An enum of its own, as the fault of call lines is in `lines`: `From<F>` of a generic one would overlap that
+// of `WordFault`, and `?` needs both.
 #[derive(Clone, Copy)]
 pub enum LinkFault {
     Word(WordFault),

@@ -1,4 +1,4 @@
-// Scripts of trading sessions: a reader over their lines and words, and what every run of a script begins with.
+// Scripts of trading sessions: a reader over their lines and words, what its lines name, and the lines that answer them.
 #![tactic(auto)]
 
 pub mod directions;
@@ -8,6 +8,5 @@ pub mod letters;
 pub mod links;
 pub mod output;
 pub mod reader;
-pub mod running;
 #[cfg(test)]
 mod tests;

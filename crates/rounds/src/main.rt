@@ -31,9 +31,9 @@ fn read_script(rt: &HostRuntime) -> anyhow::Result<Vec<u8>> {
 
 fn run(rt: &HostRuntime) -> anyhow::Result<()> {
     let bytes = read_script(rt)?;
-    let text = script::run::run(rt.alloc(), bytes.as_slice())?;
+    let ran = runs::run::run(rt.alloc(), bytes.as_slice())?;
     let mut out = rt.stdout();
-    out.write_all(text.as_bytes())?;
+    out.write_all(ran.output.as_bytes())?;
     Ok(())
 }
 

@@ -12,7 +12,7 @@ use Rattle.lines.specs.declared.faults.LineFault.TheVariants.{Word}
 use Rattle.lines.specs.Asking.{Asks}
 use Rattle.runs.specs.declared.logs.TradeText.{TradeText}
 use Rattle.runs.specs.Output.{areas_text, trade_line, trade_lines, refused_line, Adds}
-use Rattle.runs.specs.Runs.{Outcome, unread, turn, Line, printed, answer_line}
+use Rattle.runs.specs.Lines.{Outcome, unread, turn, Line, printed, answer_line}
 
 -- the text that a log has, where there was memory enough
 abbrev pub Has : {A : Type 0} → Result (String A) AllocError → List ℕ → Type 0

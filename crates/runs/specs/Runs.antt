@@ -1,75 +1,61 @@
--- What the run of a script prints, and the history that it tells.
-use Rattle.std.specs.Prelude.{◌≡◌, ℕ, ◌+◌, List, [], ◌∷◌, ◌++◌, length, Ok, Err}
+-- What the run of a script prints, the history that it tells, and the session that it leaves.
+use Rattle.std.specs.Prelude.{◌≡◌, ℕ, ◌+◌, ◌<◌, ◌≤◌, ◌⊎◌, List, [], ◌∷◌, ◌++◌, length, Some, None, Option, ◌≢◌}
+use Rattle.std.specs.Option.{option_map}
+use Rattle.capacity.specs.declared.reserve.Reserve.{Reserve}
+use Rattle.capacity.specs.declared.table.FullTable.{FullTable}
 use Rattle.capacity.specs.Meaning.{Capacity}
-use Rattle.session.specs.Rounds.{Logged}
-use Rattle.session.specs.State as session
-use Rattle.session.specs.State.{State}
-use Rattle.events.specs.declared.calls.Call.{Call}
-use Rattle.events.specs.declared.events.Event.{Event}
-use Rattle.events.specs.Events.{Answer}
-use Rattle.events.specs.Turns.{Turned, with_turn}
+use Rattle.capacity.specs.Network.{Network, no_network}
+use Rattle.capacity.specs.Shapes.{table_of, layered}
+use Rattle.session.specs.declared.state.Session.{Session}
+use Rattle.session.specs.State.{State, state, fresh}
 use Rattle.history.specs.Laws.{Lawfully}
-use Rattle.reading.specs.declared.faults.WordFault.{WordFault}
-use Rattle.reading.specs.Output.{quiet_line}
-use Rattle.reading.specs.Runs as script
-use Rattle.reading.specs.Text.{words}
-use Rattle.lines.specs.declared.faults.LineFault.TheVariants.{Word, Session}
-use Rattle.lines.specs.Asking.{Asks}
-use Rattle.runs.specs.Output.{refused_line, trade_lines}
+use Rattle.reading.specs.declared.faults.WordFault.TheVariants.{Form}
+use Rattle.reading.specs.Faults.{word_number, word_place}
+use Rattle.reading.specs.Fields.{first_letter, after_letter}
+use Rattle.reading.specs.Output.{mark, mark_line, refusal_line}
+use Rattle.reading.specs.Text.{lines, words}
+use Rattle.runs.specs.Lines.{session_number, Outcome, Lines, all_printed, events}
+use Rattle.runs.specs.Maps.{Linked, MapLine, map_printed, register_on}
 
--- the number of the session that a script runs
-abbrev pub session_number : ℕ
-session_number = 1
-
--- what a line of calls came to: it was refused as it was read; or it was a turn of the session, with so many orders resting after it
-pub data Outcome : Type 0 where
-  unread : WordFault → Outcome
-  turn : Call → Answer → List Logged → ℕ → Outcome
-
--- the line with these words comes to this at s, and t stands after it
-abbrev pub Line : State → List (List ℕ) → Outcome → State → Type 0
-Line s ws (unread e) t = Asks 0 ws (Err e) × (t ≡ s)
-Line s ws (turn k a xs r) t = Asks 0 ws (Ok k) × Turned s session_number k a xs t × (r ≡ length t.book)
-
-abbrev pub Lines : State → List (List ℕ) → List Outcome → State → Type 0
-Lines s [] os t = (os ≡ []) × (t ≡ s)
-Lines s (l ∷ ls) [] t = ⊥
-Lines s (l ∷ ls) (o ∷ os) t = (u : State) × Line s (words l) o u × Lines u ls os t
-
--- an accepted call ends with the orders resting
-abbrev pub answer_line : ℕ → Answer → ℕ → List ℕ
-answer_line n (Err f) r = refused_line n (Session f)
-answer_line n (Ok k) r = quiet_line r
-
--- what is printed for line n
-abbrev pub printed : ℕ → Outcome → List ℕ
-printed n (unread e) = refused_line n (Word e)
-printed n (turn k a xs r) = trade_lines xs ++ answer_line n a r
-
--- for the lines from number n on
-abbrev pub all_printed : ℕ → List Outcome → List ℕ
-all_printed n [] = []
-all_printed n (o ∷ os) = printed n o ++ all_printed (n + 1) os
-
--- the events of the turns, newest first, added to those before them
-abbrev pub events : List Outcome → List Event → List Event
-events [] h = h
-events (unread e ∷ os) h = events os h
-events (turn k a xs r ∷ os) h = events os (with_turn session_number k a xs h)
-
--- The lines from number n on, over a register that means m, print this text: it is the printed form of a history of a session begun
--- afresh, lawful at every point of it.
-pub record Calls (m : Capacity) (n : ℕ) (ls : List (List ℕ)) (out : List ℕ) : Type 0 where
+-- The lines from number n on, over a register that means m, print this text and leave the session t: the text is the printed form of a
+-- history of a session begun afresh, lawful at every point of it.
+pub record Calls (m : Capacity) (n : ℕ) (ls : List (List ℕ)) (t : State) (out : List ℕ) : Type 0 where
   pub outcomes : List Outcome
-  pub after : State
-  pub each : Lines (session.fresh session_number m) ls outcomes after
+  pub each : Lines (fresh session_number m) ls outcomes t
   pub text : out ≡ all_printed n outcomes
-  pub lawful : Lawfully m session_number (events outcomes []) after
+  pub lawful : Lawfully m session_number (events outcomes []) t
 
--- what a script prints: mark and version, and then what its lines come to
-abbrev pub Prints : List ℕ → List ℕ → Type 0
-Prints = script.Prints Calls
+-- the M lines (77); the first line with another letter ends the map, whatever comes of it
+abbrev pub Maps : Network → ℕ → List (List ℕ) → State → List ℕ → Type 0
+Maps m n [] t out = Calls (register_on m) n [] t out
+Maps m n (l ∷ ls) t out =
+    ((first_letter (words l) ≡ Some 77)
+    × ((r : Linked) × (m' : Network) × (more : List ℕ) × (MapLine 1 m (after_letter (words l)) r m' × (out ≡ map_printed n r ++ more) × Maps m' (n + 1) ls t more)))
+    ⊎ ((first_letter (words l) ≢ Some 77) × Calls (register_on m) n (l ∷ ls) t out)
 
--- a script prints nothing else
-abbrev pub OnlyPrint : List ℕ → List ℕ → Type 0
-OnlyPrint script out = (out' : List ℕ) → Prints script out' → out' ≡ out
+-- a script whose form is wrong is refused as line n, and leaves no session
+abbrev pub Misformed : ℕ → Option State → List ℕ → Type 0
+Misformed n t out = (t ≡ None) × (out ≡ refusal_line n (word_number Form) (word_place Form))
+
+-- the lines of a script: the first is exactly mark and version; after another nothing more is read
+abbrev pub Headed : List (List ℕ) → Option State → List ℕ → Type 0
+Headed [] t out = Misformed 1 t out
+Headed (l ∷ ls) t out =
+    ((l ≡ mark) × ((u : State) × ((t ≡ Some u) × Maps no_network 2 ls u out)))
+    ⊎ ((l ≢ mark) × Misformed 1 t out)
+
+-- a script that is too long is refused as line 0
+abbrev pub ComesTo : List ℕ → Option State → List ℕ → Type 0
+ComesTo script t out = ((65536 < length script) × Misformed 0 t out) ⊎ ((length script ≤ 65536) × Headed (lines script) t out)
+
+-- what a script prints, and the session that it leaves: mark and version, and then what its lines come to
+abbrev pub Prints : List ℕ → Option State → List ℕ → Type 0
+Prints script t out = (rest : List ℕ) × ((out ≡ mark_line ++ rest) × ComesTo script t rest)
+
+-- a script prints nothing else, and leaves no other session
+abbrev pub OnlyPrints : List ℕ → Option State → List ℕ → Type 0
+OnlyPrints script t out = (t' : Option State) (out' : List ℕ) → Prints script t' out' → (t' ≡ t) × (out' ≡ out)
+
+-- the session that a run leaves
+abbrev pub left : Option (Session (Reserve FullTable)) → Option State
+left = option_map (state (layered table_of))

@@ -1,138 +1,63 @@
-// The run of a script over a session.
-ghost use Rattle.std.specs.Prelude.{◌≡◌, ℕ, List, ◌++◌, IfOk, string_bytes, OnOk};
-ghost use Rattle.session.specs.Rounds.{Logged};
-ghost use Rattle.session.specs.State.{state};
-ghost use Rattle.events.specs.Events.{acceptance};
-ghost use Rattle.events.specs.Turns.{Turned};
-ghost use Rattle.lines.specs.declared.faults.LineFault.TheVariants.{Session as ASession};
-ghost use Rattle.reading.specs.Fields.{InLine};
-ghost use Rattle.reading.specs.Running.{CallsRun};
-ghost use Rattle.reading.specs.Runs.{upward};
-ghost use Rattle.runs.specs.Output.{trade_lines};
-ghost use Rattle.runs.specs.Running.{LineRun};
-ghost use Rattle.runs.specs.Runs.{answer_line, Calls, Prints, OnlyPrint};
+// The run of a script: its header, its map, and then its calls on a session over the map's register.
+ghost use Rattle.std.specs.Prelude.{◌≡◌, IfOk, string_bytes};
+ghost use Rattle.runs.specs.Running.{HeaderRead, ScriptRun};
+ghost use Rattle.runs.specs.Runs.{Prints, OnlyPrints, left};
 
-use crate::logs::TradeText;
-use capacity::register::Register;
+use crate::calls::run_calls;
+use crate::maps::run_map;
 use capacity::reserve::Reserve;
 use capacity::table::FullTable;
-use events::calls::Call;
-use events::events::Answer;
-use events::performing::perform;
-use lines::asking::call;
-use lines::faults::LineFault;
-use reading::output::{quiet, refuse};
+use reading::faults::WordFault;
+use reading::output::refuse;
 use reading::reader::Reader;
-use reading::running::CallRunner;
-use session::passes::QuietPass;
+use reading::reader::calls::SCRIPT_MOST;
 use session::state::Session;
 use std::alloc::{AllocError, Global};
 
-const SESSION_NUMBER: u32 = 1;
+// The session that a script runs.
+pub type Market = Session<Reserve<FullTable>>;
 
-// Makes a call, runs its round to its end and prints its trades.
-// The parameters here and below are those of `perform`, with reader and text, which stay two as in `reading::running`.
-fn take_turn<R: Register>(
-    session: &mut Session<R>,
-    pass: QuietPass,
-    call: &Call,
-    out: &mut String,
-) -> Result<(Answer, QuietPass), AllocError>
-    ensures { IfOk result (λ x. (xs : List Logged) × (Turned (state R.Register.meaning session.old) pass.number call.now x.0 xs (state R.Register.meaning session.new) × (string_bytes out.new ≡ string_bytes out.old ++ trade_lines xs) × (x.1.number ≡ pass.number))) }
-{
-    let mut log = TradeText {
-        text: Ok(String::new(*out.allocator())),
-    };
-    let (answer, pass) = perform(session, pass, call, &mut log);
-    let text = log.text?;
-    out.push_str(text.as_str())?;
-    Ok((answer, pass))
+// What a run prints, and the session that it leaves: none where the form of the script was wrong.
+#[derive(Drop)]
+pub struct Ran {
+    pub output: String,
+    pub session: Option<Market>,
 }
 
-// An answer as what the line comes to, the session's fault carried upward whole.
-fn outcome(answer: Answer) -> Result<(), LineFault>
-    ensures { result ≡ upward ASession (acceptance answer) }
+// Whether the first line is exactly mark and version.
+fn header(reader: &mut Reader) -> bool
+    ensures { HeaderRead reader.old result reader.new }
 {
-    answer?;
-    Ok(())
+    reader.next_line()
+        && reader
+            .line()
+            .is_some_and(|line| line == b"CTM 1".as_slice())
 }
 
-// Ends an accepted line with the orders resting, and a refused one with its fault.
-fn print_answer(
-    out: &mut String,
-    line: u32,
-    answer: Answer,
-    resting: usize,
-) -> Result<(), AllocError>
-    ensures { OnOk result (string_bytes out.new ≡ string_bytes out.old ++ answer_line line answer resting) }
+// Runs a script, after mark and version are printed.
+fn run_script(script: &[u8], out: &mut String) -> Result<Option<Market>, AllocError>
+    ensures { IfOk result (λ session. ScriptRun script.now (string_bytes out.old) (left session) (string_bytes out.new)) }
 {
-    match outcome(answer) {
-        Ok(()) => quiet(out, resting),
-        Err(fault) => refuse(out, line, &fault),
+    if script.len() > SCRIPT_MOST {
+        refuse(out, 0, &WordFault::Form)?;
+        return Ok(None);
     }
-}
-
-// Runs the line at hand on a session.
-fn run_line<R: Register>(
-    session: &mut Session<R>,
-    pass: QuietPass,
-    reader: &mut Reader,
-    out: &mut String,
-) -> Result<QuietPass, AllocError>
-    requires words_value { reader.old.words ≡ 0 }
-    requires number_value { pass.number ≡ 1 }
-    ensures line { IfOk result (λ p. LineRun (state R.Register.meaning session.old) reader.old (string_bytes out.old) (state R.Register.meaning session.new) (string_bytes out.new) × (p.number ≡ 1)) }
-    ensures stays { InLine reader.old reader.new }
-{
-    let line = reader.line_number();
-    match call(reader) {
-        Ok(call) => {
-            let turn = take_turn(session, pass, &call, out)?;
-            let (answer, pass) = turn;
-            print_answer(out, line, answer, session.resting())?;
-            Ok(pass)
-        }
-        Err(fault) => {
-            refuse(out, line, &LineFault::from(fault))?;
-            Ok(pass)
-        }
+    let mut reader = Reader::new(script);
+    if !header(&mut reader) {
+        refuse(out, 1, &WordFault::Form)?;
+        return Ok(None);
     }
+    let map = run_map(&mut reader, out)?;
+    let session = run_calls(map.into_register(), &mut reader, out)?;
+    Ok(Some(session))
 }
 
-// Runs the lines that are left on a session begun over the register.
-fn run_calls<R: Register + Drop>(
-    register: R,
-    reader: &mut Reader,
-    out: &mut String,
-) -> Result<(), AllocError>
-    ensures { OnOk result (CallsRun Calls (R.Register.meaning register) reader.old (string_bytes out.old) (string_bytes out.new)) }
+// Runs a script on a session begun afresh.
+pub fn run(heap: Global, script: &[u8]) -> Result<Ran, AllocError>
+    ensures prints { IfOk result (λ ran. Prints script.now (left ran.session) (string_bytes ran.output)) }
+    ensures only { IfOk result (λ ran. OnlyPrints script.now (left ran.session) (string_bytes ran.output)) }
 {
-    let (mut session, mut pass) = Session::begin(SESSION_NUMBER, register);
-    while reader.next_line() {
-        pass = run_line(&mut session, pass, reader, out)?;
-    }
-    Ok(())
-}
-
-// Calls are made on a session over the register. The method only calls the function above, which holds of any register.
-struct OverSession;
-
-impl CallRunner for OverSession {
-    ghost Calls = { Calls };
-
-    fn run_calls(
-        register: Reserve<FullTable>,
-        reader: &mut Reader,
-        out: &mut String,
-    ) -> Result<(), AllocError> {
-        run_calls(register, reader, out)
-    }
-}
-
-// What a script prints.
-pub fn run(heap: Global, script: &[u8]) -> Result<String, AllocError>
-    ensures prints { IfOk result (λ out. Prints script.now (string_bytes out)) }
-    ensures only { IfOk result (λ out. OnlyPrint script.now (string_bytes out)) }
-{
-    reading::running::run::<OverSession>(heap, script)
+    let mut output = String::from_str(heap, "CTM 1\n")?;
+    let session = run_script(script, &mut output)?;
+    Ok(Ran { output, session })
 }

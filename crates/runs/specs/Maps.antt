@@ -1,0 +1,41 @@
+-- What an M line comes to, and what is printed of it.
+use Rattle.std.specs.Prelude.{◌≡◌, ℕ, ◌⊎◌, List, [], Ok, Err, Result}
+use Rattle.capacity.specs.declared.faults.MapFault.{MapFault}
+use Rattle.capacity.specs.Faults.{map_told}
+use Rattle.capacity.specs.Meaning.{Capacity, reserved}
+use Rattle.capacity.specs.Network.{Network, connect_tests, connected}
+use Rattle.capacity.specs.Tables.{fresh}
+use Rattle.capacity.specs.Tests.{answered, resulting, said}
+use Rattle.reading.specs.declared.faults.WordFault.{WordFault}
+use Rattle.reading.specs.declared.faults.LinkFault.{LinkFault}
+use Rattle.reading.specs.declared.faults.LinkFault.TheVariants.{Word, Map}
+use Rattle.reading.specs.declared.links.Link.{Link}
+use Rattle.reading.specs.Faults.{link_number, link_place, upward}
+use Rattle.reading.specs.Making.{MakesOfCounts, link_fields, link}
+use Rattle.reading.specs.Output.{refusal_line}
+
+-- what an M line comes to
+abbrev pub Linked : Type 0
+Linked = Result (Unit {0}) LinkFault
+
+-- The map takes the connector, or refuses it by the first test that applies and stays as it was.
+pub record Connects (m : Network) (x : Link) (r : Linked) (m' : Network) : Type 0 where
+  pub answer : Result (Unit {0}) MapFault
+  pub as_told : said map_told answer ≡ answered (connect_tests m x.from x.to x.held x.held_back)
+  pub outcome : r ≡ upward Map answer
+  pub after : m' ≡ resulting (connect_tests m x.from x.to x.held x.held_back) m (connected m x.from x.to x.held x.held_back)
+
+-- an M line with these words after its letter, which has i words with it before them: its words are at fault, or they name a connector
+abbrev pub MapLine : ℕ → Network → List (List ℕ) → Linked → Network → Type 0
+MapLine i m ws r m' =
+    ((e : WordFault) × (MakesOfCounts i link_fields link ws (Err e) × (r ≡ Err (Word e)) × (m' ≡ m)))
+    ⊎ ((x : Link) × (MakesOfCounts i link_fields link ws (Ok x) × Connects m x r m'))
+
+-- a refused M line is printed; an accepted one prints nothing
+abbrev pub map_printed : ℕ → Linked → List ℕ
+map_printed n (Ok x) = []
+map_printed n (Err e) = refusal_line n (link_number e) (link_place e)
+
+-- a reserve layer over a full table with all at nought
+abbrev pub register_on : Network → Capacity
+register_on m = reserved (fresh m.joins) m.kept

@@ -1,2 +1,0 @@
-mod Letters
-mod Printing
