@@ -27,18 +27,23 @@ if grep -q '^rt: ok.*, [1-9][0-9]* bad' "$log"; then
     echo "test.sh: a must-fail edit is bad"
 fi
 
-# Beside each script of samples/ stands what the program must print of it, and for some the views that it must show.
+# Beside each script of samples/ stands what the program must print of it, and beside some the views of contract 3 at its end.
 (cd crates/rounds && rt run) </dev/null >"$work/rounds.log" 2>&1 || tail -n 8 "$work/rounds.log"
 for script in samples/*.ctm; do
-    name=$(basename "$script" .ctm)
-    crates/rounds/out/rounds "$script" >"$work/printed" 2>&1
-    if [ -s "$work/printed" ] && cmp -s "$work/printed" "samples/$name.out"; then
+    sample=${script%.ctm}
+    options=() views=/dev/null
+    if [ -f "$sample.views" ]; then
+        options=(--views 3) views=$sample.views
+    fi
+    crates/rounds/out/rounds "${options[@]}" "$script" >"$work/out" 2>"$work/views"
+    if [ -s "$work/out" ] && cmp -s "$work/out" "$sample.out" && cmp -s "$work/views" "$views"; then
         passed=$((passed + 1))
-        echo "samples/$name: printed as it must be"
+        echo "$sample: printed as it must be"
     else
         failed=$((failed + 1))
-        echo "samples/$name: NOT PRINTED as it must be:"
-        diff "$work/printed" "samples/$name.out" | head -n 8
+        echo "$sample: NOT PRINTED as it must be:"
+        diff "$work/out" "$sample.out" | head -n 8
+        diff "$work/views" "$views" | head -n 8
     fi
 done
 

@@ -1,9 +1,15 @@
-// Runs a script of a trading session, from a file or from standard input, and prints what it carried out.
+// Runs a script of a trading session, from a file or from standard input, and prints what it carried out;
+// asked to, it then shows the views of a contract on standard error.
 #![tactic(auto)]
 
+mod arguments;
+
 use anyhow::anyhow;
+use arguments::{Asked, arguments};
 use reading::reader::calls::SCRIPT_MOST;
-use std::env;
+use runs::run::Market;
+use screens::faults::ScreenFault;
+use screens::screen::screen;
 use std::fs::File;
 use std::io::{Read, Write};
 
@@ -16,24 +22,36 @@ fn read_some<T: Read + Drop>(rt: &HostRuntime, source: T) -> anyhow::Result<Vec<
     Ok(bytes)
 }
 
-// The bytes of the file that the one argument names, or of standard input where there is none.
-fn read_script(rt: &HostRuntime) -> anyhow::Result<Vec<u8>> {
-    let mut args = env::args(rt)?;
-    let _program = args.next();
-    let Some(path) = args.next() else {
-        return read_some(rt, rt.stdin());
-    };
-    if args.next().is_some() {
-        return Err(anyhow!("usage: rounds [SCRIPT]"));
+// The bytes of the file that is named, or of standard input where none is.
+fn read_script(rt: &HostRuntime, path: &Option<String>) -> anyhow::Result<Vec<u8>> {
+    match path {
+        Some(path) => read_some(rt, File::open(rt, path.as_str())?),
+        None => read_some(rt, rt.stdin()),
     }
-    read_some(rt, File::open(rt, path.as_str())?)
+}
+
+// Shows the views of a contract as they are after the run.
+fn show(rt: &HostRuntime, session: &Market, contract: u32) -> anyhow::Result<()> {
+    let text = match screen(rt.alloc(), session, contract) {
+        Ok(text) => text,
+        Err(ScreenFault::Refused(fault)) => {
+            let number = fault.number();
+            return Err(anyhow!("the views of contract {contract} are refused by {number}"));
+        }
+        Err(ScreenFault::Memory(fault)) => return Err(fault.into()),
+    };
+    rt.stderr().write_all(text.as_bytes())?;
+    Ok(())
 }
 
 fn run(rt: &HostRuntime) -> anyhow::Result<()> {
-    let bytes = read_script(rt)?;
+    let Asked { views, script } = arguments(rt)?;
+    let bytes = read_script(rt, &script)?;
     let ran = runs::run::run(rt.alloc(), bytes.as_slice())?;
-    let mut out = rt.stdout();
-    out.write_all(ran.output.as_bytes())?;
+    rt.stdout().write_all(ran.output.as_bytes())?;
+    if let (Some(contract), Some(session)) = (views, &ran.session) {
+        show(rt, session, contract)?;
+    }
     Ok(())
 }
 

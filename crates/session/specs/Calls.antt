@@ -14,7 +14,6 @@ use Rattle.book.specs.Ranks.{order_at}
 use Rattle.book.specs.Terms.{size_tests, bounds_tests, slice_tests, ill_sliced}
 use Rattle.matching.specs.declared.round.Round.TheVariants.{Regular, Batch}
 use Rattle.session.specs.declared.entries.Entry.{Entry}
-use Rattle.session.specs.declared.faults.SessionFault.{SessionFault}
 use Rattle.session.specs.declared.passes.QuietPass.{QuietPass}
 use Rattle.session.specs.declared.passes.RoundPass.{RoundPass}
 use Rattle.session.specs.declared.passes.Refused.{Refused}
@@ -40,11 +39,6 @@ raised f (t ∷ ts) = (t.0, f t.1) ∷ raised f ts
 abbrev pub answer : {P Q : Type 0} → Result P (Refused Q) → Result (Unit {0}) Refusal
 answer (Ok p) = Ok tt
 answer (Err e) = Err (told e.fault)
-
--- what an accepted call gave, beside its pass; a refused one hands the pass back
-abbrev pub with_pass : {P T : Type 0} → Result T SessionFault → P → Result (T × P) (Refused P)
-with_pass (Ok x) p = Ok (x, p)
-with_pass (Err f) p = Err (record { fault = f; pass = p })
 
 -- the number on the pass that came back, of a call that begins a round and of one that does not
 abbrev pub begun : Result RoundPass (Refused QuietPass) → ℕ

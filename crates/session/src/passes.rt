@@ -1,7 +1,7 @@
 // Passes: what a caller must hold to make a call, and how they come back.
-ghost use Rattle.std.specs.Prelude.{◌≡◌};
+ghost use Rattle.std.specs.Prelude.{◌≡◌, Ok, Err, MatchResult};
 ghost use Rattle.capacity.specs.Tests.{said};
-ghost use Rattle.session.specs.Calls.{answer, begun, with_pass};
+ghost use Rattle.session.specs.Calls.{answer, begun};
 ghost use Rattle.session.specs.Faults.{told};
 
 use crate::faults::SessionFault;
@@ -60,7 +60,7 @@ pub(crate) fn with_pass<P, T>(
     checked: Result<T, SessionFault>,
     pass: P,
 ) -> Result<(T, P), Refused<P>>
-    ensures { result ≡ with_pass checked pass }
+    ensures { MatchResult result (λ x. (checked ≡ Ok x.0) × (x.1 ≡ pass)) (λ e. (checked ≡ Err e.fault) × (e.pass ≡ pass)) }
 {
     match checked {
         Ok(given) => Ok((given, pass)),

@@ -3,7 +3,7 @@ mod Holding
 mod Belows
 mod Reaching
 mod Showing
-mod Gathering
+pub mod Gathering
 mod Counting
 mod Once
 mod Ranking

@@ -7,6 +7,7 @@ use Rattle.book.specs.Ranks.{order_at}
 use Rattle.capacity.specs.Meaning.{Capacity}
 use Rattle.flows.specs.Flows.{OpenIn, least}
 use Rattle.routes.proofs.Unique.{one_route}
+use Rattle.trades.proofs.Once.{pos_same}
 use Rattle.views.specs.declared.lines.BookLine.{BookLine}
 use Rattle.views.specs.declared.lines.CapacityLine.{CapacityLine}
 use Rattle.views.specs.Books.{Line, Shows}
@@ -24,9 +25,6 @@ one_direction m c i o p h k = one_if o p (h ∙ sym k)
 
 same_parts : (x y : BookLine) → x.side ≡ y.side → x.limit ≡ y.limit → x.place ≡ y.place → x.quantity ≡ y.quantity → x ≡ y
 same_parts x y a b c d = λ i. record { side = a i; limit = b i; place = c i; quantity = d i }
-
-pos_same : (p q : ℕ) → pos p ≡ pos q → p ≡ q
-pos_same p q e = cc
 
 pub same_line : (m : Capacity) (c a : ℕ) (s : Side) (i : ℕ) (o : Order) (x y : BookLine) → Line m c a s i o x → Line m c a s i o y → x ≡ y
 same_line m c a s i o x y h k =

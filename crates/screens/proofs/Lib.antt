@@ -1,0 +1,5 @@
+-- Lemmas on screens.
+mod Fitting
+mod Printing
+mod Areas
+mod Once
