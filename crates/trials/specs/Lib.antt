@@ -1,0 +1,5 @@
+-- The definitions that the contracts cite.
+pub mod Rows
+pub mod Registers
+pub mod Rounds
+pub mod Trials
