@@ -8,9 +8,9 @@ use Rattle.events.specs.declared.calls.Call.{Call}
 use Rattle.reading.specs.declared.faults.WordFault.{WordFault}
 use Rattle.reading.specs.declared.faults.WordFault.TheVariants.{Form}
 use Rattle.reading.specs.Fields.{first_letter, after_letter}
-use Rattle.reading.specs.Making.{sizes, notice_fields, request_fields}
+use Rattle.reading.specs.Making.{sizes}
 use Rattle.reading.proofs.Once.{one_making}
-use Rattle.lines.specs.Asking.{notice, request, change_fields, change, withdrawal_fields, withdrawal, closing_fields, closing, entry_fields, entry, side_word, kind_word, Stands, EntryBy, EntryLine, ByLetter, Asks}
+use Rattle.lines.specs.Asking.{notice_fields, notice, request_fields, request, change_fields, change, withdrawal_fields, withdrawal, closing_fields, closing, entry_fields, entry, side_word, kind_word, Stands, EntryBy, EntryLine, ByLetter, Asks}
 
 -- ---- side and kind
 

@@ -5,6 +5,7 @@ use Rattle.book.specs.declared.rows.Kind.{Kind}
 use Rattle.book.specs.declared.rows.Kind.TheVariants.{Non, Ioc, Ice}
 use Rattle.book.specs.declared.rows.Side.{Side}
 use Rattle.book.specs.declared.rows.Side.TheVariants.{Buy, Sell}
+use Rattle.capacity.specs.declared.direction.Direction.{Direction}
 use Rattle.events.specs.declared.calls.Call.{Call}
 use Rattle.events.specs.declared.calls.Call.TheVariants.{Enter, Change, Withdraw, Request, Notice, Close}
 use Rattle.reading.specs.declared.faults.WordFault.{WordFault}
@@ -12,16 +13,25 @@ use Rattle.reading.specs.declared.faults.WordFault.TheVariants.{Form}
 use Rattle.reading.specs.declared.fields.Field.{Field}
 use Rattle.reading.specs.declared.fields.Field.TheVariants.{Count, Signed, Letters}
 use Rattle.reading.specs.Fields.{first_letter, after_letter}
-use Rattle.reading.specs.Making as reading
-use Rattle.reading.specs.Making.{Makes, MakesOfCounts, sizes, at, count, notice_fields, request_fields}
+use Rattle.reading.specs.Making.{Makes, MakesOfCounts, sizes, at, count}
+
+-- the direction that the first three numbers name
+abbrev pub direction : List ℕ → Direction
+direction ns = record { contract = count ns 0; from = count ns 1; to = count ns 2 }
 
 -- N contract from to ntc ntcBack aac aacBack
+abbrev pub notice_fields : List Field
+notice_fields = Count unit.Count ∷ Count unit.Count ∷ Count unit.Count ∷ Count unit.Megawatt ∷ Count unit.Megawatt ∷ Count unit.Megawatt ∷ Count unit.Megawatt ∷ []
+
 abbrev pub notice : List ℕ → Call
-notice ns = let x = reading.notice ns in Notice x.direction x.figures
+notice ns = Notice (direction ns) (record { ntc = count ns 3; ntc_back = count ns 4; aac = count ns 5; aac_back = count ns 6 })
 
 -- X contract from to quantity
+abbrev pub request_fields : List Field
+request_fields = Count unit.Count ∷ Count unit.Count ∷ Count unit.Count ∷ Count unit.Megawatt ∷ []
+
 abbrev pub request : List ℕ → Call
-request ns = let x = reading.request ns in Request x.direction x.quantity
+request ns = Request (direction ns) (count ns 3)
 
 -- C order member limit quantity
 abbrev pub change_fields : List Field

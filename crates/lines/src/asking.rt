@@ -1,11 +1,13 @@
 // What a line asks for, as a call on a session.
 ghost use Rattle.reading.specs.Reading.{ahead};
 ghost use Rattle.reading.specs.Fields.{InLine};
-ghost use Rattle.reading.specs.Making.{Makes, MakesOfCounts, notice_fields, request_fields};
-ghost use Rattle.lines.specs.Asking.{notice, request, change_fields, change, withdrawal_fields, withdrawal, closing_fields, closing, EntryLine, Asks};
+ghost use Rattle.reading.specs.Making.{Makes, MakesOfCounts};
+ghost use Rattle.lines.specs.Asking.{notice_fields, notice, request_fields, request, change_fields, change, withdrawal_fields, withdrawal, closing_fields, closing, EntryLine, Asks};
 
 use crate::entries::{kind_of, side_of};
 use book::rows::OrderTerms;
+use capacity::direction::Direction;
+use capacity::figures::Figures;
 use events::calls::Call;
 use numbers::Unit;
 use reading::faults::WordFault;
@@ -20,15 +22,20 @@ const SIDE: u32 = 3;
 
 const KIND: u32 = 5;
 
-// Copied over from here on: calls stand apart from scripts, and scripts of capacity have no calls.
 fn notice(reader: &mut Reader) -> Result<Call, WordFault>
     ensures call { MakesOfCounts reader.old.words notice_fields notice (ahead reader.old) result }
     ensures stays { InLine reader.old reader.new }
 {
-    let notice = reader.notice()?;
+    let counts = reader.counts([COUNT, COUNT, COUNT, POWER, POWER, POWER, POWER])?;
+    let [contract, from, to, ntc, ntc_back, aac, aac_back] = counts;
     Ok(Call::Notice {
-        direction: notice.direction,
-        figures: notice.figures,
+        direction: Direction { contract, from, to },
+        figures: Figures {
+            ntc,
+            ntc_back,
+            aac,
+            aac_back,
+        },
     })
 }
 
@@ -36,10 +43,11 @@ fn request(reader: &mut Reader) -> Result<Call, WordFault>
     ensures call { MakesOfCounts reader.old.words request_fields request (ahead reader.old) result }
     ensures stays { InLine reader.old reader.new }
 {
-    let request = reader.request()?;
+    let counts = reader.counts([COUNT, COUNT, COUNT, POWER])?;
+    let [contract, from, to, quantity] = counts;
     Ok(Call::Request {
-        direction: request.direction,
-        quantity: request.quantity,
+        direction: Direction { contract, from, to },
+        quantity,
     })
 }
 
@@ -118,13 +126,14 @@ fn entry(reader: &mut Reader) -> Result<Call, WordFault>
     }))
 }
 
-// What the words that are left of the line ask for, its letter first.
+// What the words that are left of the line ask for, its letter first. How far into the line the reader then is, is not promised:
+// a caller goes on to the next line.
 pub fn call(reader: &mut Reader) -> Result<Call, WordFault>
     ensures call { Asks reader.old.words (ahead reader.old) result }
     ensures stays { InLine reader.old reader.new }
 {
     let letter = reader.letter().ok_or(WordFault::Form)?;
-    // the letters are the cases of a match: a rule of the project
+    // the letters are the cases of a match: a rule of the repository (docs/DECISIONS.md, Forms)
     match letter {
         'C' => change(reader),
         'E' => entry(reader),

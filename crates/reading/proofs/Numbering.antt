@@ -1,11 +1,13 @@
 -- Number words read one after another: what is known once some of them are read.
-use Rattle.std.proofs.Common.{◌≡◌, ℕ, suc, ◌+◌, ◌<◌, ◌≤◌, List, [], ◌∷◌, ◌++◌, length, get_or, take, drop, set, ℤ, Err, sym, refl, ap, append_assoc, append-nil, add-zero, zero-add, arith}
-use Rattle.std.proofs.lemmas.List.{drop_more, take_all, drop_all, take_more_set}
+use Rattle.std.proofs.Common.{◌≡◌, ℕ, suc, ◌+◌, ◌<◌, ◌≤◌, List, [], ◌∷◌, ◌++◌, length, get_or, take, drop, set, ℤ, Err, sym, refl, ap, ◌∙◌, append_assoc, append-nil, add-zero, zero-add, arith}
+use Rattle.std.proofs.lemmas.List.{drop_more, drop-drop, take_all, drop_all, take_more_set}
 use Rattle.numbers.specs.declared.NumberFault.{NumberFault}
 use Rattle.reading.specs.declared.fields.Field.{Field}
 use Rattle.reading.specs.declared.faults.WordFault.{WordFault}
 use Rattle.reading.specs.declared.faults.WordFault.TheVariants.{Form, Number}
-use Rattle.reading.specs.Fields.{Read, Faulty, Numbers, OneFault}
+use Rattle.reading.specs.declared.reader.Reader.{Reader}
+use Rattle.reading.specs.Reading.{ahead}
+use Rattle.reading.specs.Fields.{Read, Faulty, Numbers, OneFault, WordsRead, StoppedAt}
 
 -- Of the words ws₀, i are read as the first counts of cs, and the words ws are left.
 pub record ReadSoFar (us : List Field) (ws₀ : List (List ℕ)) (i : ℕ) (ws : List (List ℕ)) (cs : List ℤ) : Type 0 where
@@ -52,3 +54,13 @@ stopped us ws₀ ws cs i before words d Form l all left at so h = absurd (omega 
 stopped us ws₀ ws cs i before words d (Number k f) l all left at so h =
     let here : Faulty (drop i us) ws 0 f = rw (drop_more us i d l) (first_faulty (get_or us i d) (drop (i + 1) us) ws f h.0) in
     (all, (i, (rw add-zero at (so.faults 0 f here), omega (arith, h.1))))
+
+-- i words of the line are read, and then one more
+pub one_on : (i : ℕ) (s t v : Reader) (u : Field) (z : ℤ) → WordsRead i s t → v.words ≡ t.words + 1 → Read (u ∷ []) (ahead t) (z ∷ []) (ahead v) → WordsRead (i + 1) s v
+one_on i s t v u z (rest, counted) next (w, ws, z₁, zs, (e, p, a, q)) = (sym q.0 ∙ ap (drop 1) (sym e) ∙ ap (drop 1) rest ∙ drop-drop 1 i (ahead s), omega (arith, counted, next))
+
+-- i words of the line are read, and then it is read up to the first word that is no number
+pub read_on : (i : ℕ) (s t u : Reader) (e : WordFault) (d : Field) → WordsRead i s t → StoppedAt t e u → OneFault t.words d (ahead t) e → 0 < length (ahead t) → StoppedAt s e u
+read_on i s t u Form d so h none left = absurd (omega (arith, ap length none))
+read_on i s t u (Number k f) d (rest, counted) (j, (at, (more, count))) h left =
+    (i + j, (omega (arith, at, counted), (more ∙ ap (drop j) rest ∙ drop-drop j i (ahead s), omega (arith, count, counted))))

@@ -1,5 +1,5 @@
 -- The number words of a line: their numbers, or the leftmost one that is no number of its unit.
-use Rattle.std.specs.Prelude.{◌≡◌, ℕ, zero, suc, ◌+◌, Bool, true, false, List, [], ◌∷◌, length, ℤ, pos, Some, None, Ok, Err, Option, Result}
+use Rattle.std.specs.Prelude.{◌≡◌, ℕ, zero, suc, ◌+◌, Bool, true, false, List, [], ◌∷◌, length, take, drop, ℤ, pos, Some, None, Ok, Err, Option, Result}
 use Rattle.numbers.specs.declared.NumberFault.{NumberFault}
 use Rattle.numbers.specs.Reading.{Answers}
 use Rattle.reading.specs.declared.fields.Field.{Field}
@@ -57,11 +57,26 @@ after_letter (w ∷ ws) = ws
 abbrev pub InLine : Reader → Reader → Type 0
 InLine s t = (below t ≡ below s) × (t.lines ≡ s.lines)
 
--- the letter l of the line is read; a word of another length than 1 is read as none
+-- n words of the line are read
+abbrev pub WordsRead : ℕ → Reader → Reader → Type 0
+WordsRead n s t = (ahead t ≡ drop n (ahead s)) × (t.words ≡ s.words + n)
+
+-- the line is read up to the word at fault; not at all where it has too many or too few
+abbrev pub StoppedAt : Reader → WordFault → Reader → Type 0
+StoppedAt s Form t = WordsRead 0 s t
+StoppedAt s (Number k f) t = (j : ℕ) × ((k ≡ s.words + j) × WordsRead j s t)
+
+-- how far a line is read for n number words
+abbrev pub ReadTo : {X : Type 0} → ℕ → Reader → Result X WordFault → Reader → Type 0
+ReadTo n s (Ok x) t = WordsRead n s t
+ReadTo n s (Err e) t = StoppedAt s e t
+
+-- the letter l of the line is read; a word of another length than 1 is read as none, and so is a missing one
 pub record LetterTaken (s : Reader) (l : Option ℕ) (t : Reader) : Type 0 where
   pub is : l ≡ first_letter (ahead s)
   pub rest : ahead t ≡ after_letter (ahead s)
   pub counted : (c : ℕ) → l ≡ Some c → t.words ≡ s.words + 1
+  pub passed : l ≡ None → t.words ≡ s.words + length (take 1 (ahead s))
   pub stays : InLine s t
 
 -- no line follows, or one with another letter than c
@@ -83,4 +98,4 @@ OneFault i u ws (Number k f) = Faulty (u ∷ []) ws 0 f × (k ≡ i + 1)
 
 abbrev pub OneTaken : Reader → Field → Result ℤ WordFault → Reader → Type 0
 OneTaken s u (Ok z) t = InLine s t × (t.words ≡ s.words + 1) × Read (u ∷ []) (ahead s) (z ∷ []) (ahead t)
-OneTaken s u (Err e) t = InLine s t × OneFault s.words u (ahead s) e
+OneTaken s u (Err e) t = InLine s t × OneFault s.words u (ahead s) e × StoppedAt s e t

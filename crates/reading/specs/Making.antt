@@ -1,9 +1,6 @@
 -- What is made of the number words of a line.
 use Rattle.std.specs.Prelude.{◌≡◌, ℕ, List, [], ◌∷◌, ℤ, pos, Ok, Err, Result, map, slice_index, slice_index_or, unsigned_abs}
 use Rattle.numbers.specs.declared.Unit.TheVariants as unit
-use Rattle.capacity.specs.declared.direction.Direction.{Direction}
-use Rattle.reading.specs.declared.directions.Notice.{Notice}
-use Rattle.reading.specs.declared.directions.Request.{Request}
 use Rattle.reading.specs.declared.faults.WordFault.{WordFault}
 use Rattle.reading.specs.declared.fields.Field.{Field}
 use Rattle.reading.specs.declared.fields.Field.TheVariants.{Count}
@@ -37,21 +34,3 @@ link_fields = Count unit.Count ∷ Count unit.Count ∷ Count unit.Megawatt ∷ 
 
 abbrev pub link : List ℕ → Link
 link ns = record { from = count ns 0; to = count ns 1; held = count ns 2; held_back = count ns 3 }
-
--- the direction that the first three numbers name
-abbrev pub direction : List ℕ → Direction
-direction ns = record { contract = count ns 0; from = count ns 1; to = count ns 2 }
-
--- N contract from to ntc ntcBack aac aacBack
-abbrev pub notice_fields : List Field
-notice_fields = Count unit.Count ∷ Count unit.Count ∷ Count unit.Count ∷ Count unit.Megawatt ∷ Count unit.Megawatt ∷ Count unit.Megawatt ∷ Count unit.Megawatt ∷ []
-
-abbrev pub notice : List ℕ → Notice
-notice ns = record { direction = direction ns; figures = record { ntc = count ns 3; ntc_back = count ns 4; aac = count ns 5; aac_back = count ns 6 } }
-
--- X contract from to quantity
-abbrev pub request_fields : List Field
-request_fields = Count unit.Count ∷ Count unit.Count ∷ Count unit.Count ∷ Count unit.Megawatt ∷ []
-
-abbrev pub request : List ℕ → Request
-request ns = record { direction = direction ns; quantity = count ns 3 }

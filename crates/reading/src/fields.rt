@@ -1,8 +1,8 @@
 // The words of a line as numbers, one after another.
-ghost use Rattle.std.specs.Prelude.{◌≡◌, [], slice_index_or};
+ghost use Rattle.std.specs.Prelude.{◌≡◌, [], length, slice_index_or};
 ghost use Rattle.reading.specs.Making.{Makes, sizes};
 ghost use Rattle.reading.specs.Reading.{ahead};
-ghost use Rattle.reading.specs.Fields.{OneTaken, Numbers, InLine, WordAnswers};
+ghost use Rattle.reading.specs.Fields.{OneTaken, Numbers, ReadTo, InLine, WordAnswers};
 
 use crate::faults::WordFault;
 use crate::reader::Reader;
@@ -76,6 +76,7 @@ impl<'a> Reader<'a> {
     // A loop: `try_map` requires that it fits in memory once more, `from_fn` knows no `?`, and no call here may require anything.
     pub fn numbers<const N: usize>(&mut self, fields: [Field; N]) -> Result<[i32; N], WordFault>
         ensures numbers { Numbers self.old.words fields.entry (ahead self.old) result }
+        ensures reads { ReadTo (length fields.entry) self.old result self.new }
         ensures stays { InLine self.old self.new }
     {
         if self.words_left() as usize != N {
@@ -91,6 +92,7 @@ impl<'a> Reader<'a> {
     // The same without their signs.
     pub fn counts<const N: usize>(&mut self, fields: [Field; N]) -> Result<[u32; N], WordFault>
         ensures counts { Makes self.old.words fields.entry sizes (ahead self.old) result }
+        ensures reads { ReadTo (length fields.entry) self.old result self.new }
         ensures stays { InLine self.old self.new }
     {
         let numbers = self.numbers(fields)?;

@@ -1,7 +1,6 @@
 // Scripts of trading sessions: a reader over their lines and words, what its lines name, and the lines that answer them.
 #![tactic(auto)]
 
-pub mod directions;
 pub mod faults;
 pub mod fields;
 pub mod letters;
