@@ -11,10 +11,10 @@ ghost use Rattle.book.specs.Places.{orders, append_refusal, appended, nth, witho
 use crate::faults::BookFault;
 use crate::rows::{Kind, Order, Side};
 
-const PLACES: usize = 128;
+pub const PLACES: usize = 128;
 
 // An order's place is its age: it stands in the first `len` rows, after all older ones.
-// A rule of the project: no heap, so the rows are an array with a length, in a plain struct.
+// No heap (docs/DECISIONS.md, Forms), so the rows are an array with a length, in a plain struct.
 // That it is Orderly is no ghost field: `append` takes any order, and may ask no more of its callers.
 #[derive(Clone, Copy)]
 pub struct Book {

@@ -133,7 +133,7 @@ pub fn call(reader: &mut Reader) -> Result<Call, WordFault>
     ensures stays { InLine reader.old reader.new }
 {
     let letter = reader.letter().ok_or(WordFault::Form)?;
-    // the letters are the cases of a match: a rule of the repository (docs/DECISIONS.md, Forms)
+    // the letters are the cases of a match (docs/DECISIONS.md, Forms)
     match letter {
         'C' => change(reader),
         'E' => entry(reader),

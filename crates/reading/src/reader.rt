@@ -5,7 +5,7 @@ ghost use Rattle.reading.specs.Text.{with_its_end};
 pub mod calls;
 
 // What is left of a script: the line at hand, until its last word is read, and all that follows it.
-// One struct over borrowed bytes with both counts, a rule of the project: that a call stays in its line each one says (`InLine`).
+// One struct over borrowed bytes with both counts (docs/DECISIONS.md, Forms): that a call stays in its line each one says (`InLine`).
 #[derive(Clone, Copy)]
 pub struct Reader<'a> {
     line: Option<&'a [u8]>,

@@ -7,7 +7,7 @@ mod arguments;
 use anyhow::anyhow;
 use arguments::{Asked, arguments};
 use reading::reader::calls::SCRIPT_MOST;
-use runs::run::Market;
+use runs::run::{Market, run};
 use screens::faults::ScreenFault;
 use screens::screen::screen;
 use std::fs::File;
@@ -23,7 +23,7 @@ fn read_some<T: Read + Drop>(rt: &HostRuntime, source: T) -> anyhow::Result<Vec<
 }
 
 // The bytes of the file that is named, or of standard input where none is.
-fn read_script(rt: &HostRuntime, path: &Option<String>) -> anyhow::Result<Vec<u8>> {
+fn read_script(rt: &HostRuntime, path: Option<String>) -> anyhow::Result<Vec<u8>> {
     match path {
         Some(path) => read_some(rt, File::open(rt, path.as_str())?),
         None => read_some(rt, rt.stdin()),
@@ -31,7 +31,7 @@ fn read_script(rt: &HostRuntime, path: &Option<String>) -> anyhow::Result<Vec<u8
 }
 
 // Shows the views of a contract as they are after the run.
-fn show(rt: &HostRuntime, session: &Market, contract: u32) -> anyhow::Result<()> {
+fn show_views(rt: &HostRuntime, session: &Market, contract: u32) -> anyhow::Result<()> {
     let text = match screen(rt.alloc(), session, contract) {
         Ok(text) => text,
         Err(ScreenFault::Refused(fault)) => {
@@ -44,17 +44,13 @@ fn show(rt: &HostRuntime, session: &Market, contract: u32) -> anyhow::Result<()>
     Ok(())
 }
 
-fn run(rt: &HostRuntime) -> anyhow::Result<()> {
-    let Asked { views, script } = arguments(rt)?;
-    let bytes = read_script(rt, &script)?;
-    let ran = runs::run::run(rt.alloc(), bytes.as_slice())?;
+fn main(rt: HostRuntime) -> anyhow::Result<()> {
+    let Asked { views, script } = arguments(&rt)?;
+    let bytes = read_script(&rt, script)?;
+    let ran = run(rt.alloc(), bytes.as_slice())?;
     rt.stdout().write_all(ran.output.as_bytes())?;
     if let (Some(contract), Some(session)) = (views, &ran.session) {
-        show(rt, session, contract)?;
+        show_views(&rt, session, contract)?;
     }
     Ok(())
-}
-
-fn main(rt: HostRuntime) -> anyhow::Result<()> {
-    run(&rt)
 }

@@ -23,7 +23,7 @@ use Rattle.reading.proofs.Once.{not_both, one_making}
 use Rattle.lines.proofs.Once.{one_asking}
 use Rattle.runs.specs.Lines.{session_number, Outcome, unread, turn, Line, Lines, all_printed}
 use Rattle.runs.specs.Maps.{Linked, Connects, MapLine, map_printed, register_on}
-use Rattle.runs.specs.Runs.{Calls, Maps, Misformed, Headed, ComesTo, Prints}
+use Rattle.runs.specs.Runs.{CallLines, MapLines, Misformed, Headed, ComesTo, Prints}
 
 -- ---- the lines of calls
 
@@ -50,7 +50,7 @@ one_lines (l ∷ ls) s (o ∷ os) (o' ∷ os') t t' (u, first, rest) (u', first'
     let (others, end) = one_lines ls u os os' t t' rest (subst (λ (v : State). Lines v ls os' t') (sym after) rest') in
     (cc, end)
 
-one_calls : (m : Capacity) (n : ℕ) (ls : List (List ℕ)) (t t' : State) (out out' : List ℕ) → Calls m n ls t out → Calls m n ls t' out' → (t ≡ t') × (out ≡ out')
+one_calls : (m : Capacity) (n : ℕ) (ls : List (List ℕ)) (t t' : State) (out out' : List ℕ) → CallLines m n ls t out → CallLines m n ls t' out' → (t ≡ t') × (out ≡ out')
 one_calls m n ls t t' out out' h k =
     let (same, end) = one_lines ls (fresh session_number m) h.outcomes k.outcomes t t' h.each k.each in
     (end, h.text ∙ ap (all_printed n) same ∙ sym k.text)
@@ -89,11 +89,11 @@ one_map_line m ws r r' m₁ m₂ (inr (x, (makes, connects))) (inr (x', (makes',
 
 -- ---- the whole script
 
-one_map : (ls : List (List ℕ)) (m : Network) (n : ℕ) (t t' : State) (out out' : List ℕ) → Maps m n ls t out → Maps m n ls t' out' → (t ≡ t') × (out ≡ out')
+one_map : (ls : List (List ℕ)) (m : Network) (n : ℕ) (t t' : State) (out out' : List ℕ) → MapLines m n ls t out → MapLines m n ls t' out' → (t ≡ t') × (out ≡ out')
 one_map [] m n t t' out out' h k = one_calls (register_on m) n [] t t' out out' h k
 one_map (l ∷ ls) m n t t' out out' (inl (letter, (r, m₁, more, (line, text, rest)))) (inl (letter', (r', m₂, more', (line', text', rest')))) =
     let (outcome, after) = one_map_line m (after_letter (words l)) r r' m₁ m₂ line line' in
-    let (end, others) = one_map ls m₁ (n + 1) t t' more more' rest (subst (λ (z : Network). Maps z (n + 1) ls t' more') (sym after) rest') in
+    let (end, others) = one_map ls m₁ (n + 1) t t' more more' rest (subst (λ (z : Network). MapLines z (n + 1) ls t' more') (sym after) rest') in
     (end, text ∙ ap (λ (z : Linked). map_printed n z ++ more) outcome ∙ ap (λ (z : List ℕ). map_printed n r' ++ z) others ∙ sym text')
 one_map (l ∷ ls) m n t t' out out' (inl h) (inr k) = absurd (k.0 h.0)
 one_map (l ∷ ls) m n t t' out out' (inr h) (inl k) = absurd (h.0 k.0)

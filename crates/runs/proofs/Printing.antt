@@ -12,7 +12,7 @@ use Rattle.reading.specs.Fields.{OtherLetter, LineWith, InLine}
 use Rattle.runs.specs.Lines as lines
 use Rattle.runs.specs.Lines.{Line, printed}
 use Rattle.runs.specs.Maps.{MapLine, map_printed, register_on}
-use Rattle.runs.specs.Runs.{Calls, Maps, Headed}
+use Rattle.runs.specs.Runs.{CallLines, MapLines, Headed}
 use Rattle.runs.specs.Running.{FirstLine, HeaderRead, Allowing, Printed, MapsBelow, CallsBelow, TurnsBelow, MapLineRun, MapsRun, LineRun, CallsRun, ScriptRun}
 
 pub none_printed : (P : Allowing) (out : List ℕ) → Printed P P out out
@@ -45,7 +45,7 @@ map_more P m m' s t u a b c so line (r, (h, p)) (ls, ns) =
     (map_printed t.lines r, (p, λ x more k. rw (e, sym n) (inl (line.0.1.1, (r, m', more, (subst (λ (x : List (List ℕ)). MapLine 1 m x r m') line.0.1.2 first, refl, rw ns at k))))))
 
 -- the map ends where another letter follows, or nothing
-map_ended : (m : Network) (n : ℕ) (ls : List (List ℕ)) (x : State) (more : List ℕ) → OtherLetter 77 ls → Calls (register_on m) n ls x more → Maps m n ls x more
+map_ended : (m : Network) (n : ℕ) (ls : List (List ℕ)) (x : State) (more : List ℕ) → OtherLetter 77 ls → CallLines (register_on m) n ls x more → MapLines m n ls x more
 map_ended m n [] x more other h = h
 map_ended m n (l ∷ ls) x more other h = inr (other, h)
 
@@ -95,14 +95,14 @@ lines_done P x s t a b (text, (e, f)) (none, kept) =
 
 -- ---- the script
 
-headed : (ls ls' : List (List ℕ)) (x : State) (out : List ℕ) → FirstLine ls true ls' → Maps no_network 2 ls' x out → Headed ls (Some x) out
+headed : (ls ls' : List (List ℕ)) (x : State) (out : List ℕ) → FirstLine ls true ls' → MapLines no_network 2 ls' x out → Headed ls (Some x) out
 headed [] ls' x out h k = absurd h
-headed (l ∷ ls) ls' x out h k = inl (h.0, (x, (refl, subst (λ (z : List (List ℕ)). Maps no_network 2 z x out) h.1 k)))
+headed (l ∷ ls) ls' x out h k = inl (h.0, (x, (refl, subst (λ (z : List (List ℕ)). MapLines no_network 2 z x out) h.1 k)))
 
 -- a script that is not too long, with its header read at h, its map at t, and its calls after that
 pub script_run : (script : List ℕ) (s h t : Reader) (m : Network) (register : Capacity) (x : State) (a b c : List ℕ) → length script ≤ 65536 → Begun script s → HeaderRead s true h → MapsRun h a m t b → register ≡ register_on m → CallsRun register t b x c → ScriptRun script a (Some x) c
 script_run script s h t m register x a b c short begun (first, n) (y, (e, f)) on (z, (g, k)) =
     let two : h.lines + 1 ≡ 2 = omega (arith, begun.no_line) in
     let calls : CallsBelow (register_on m) t x z = subst (λ (r : Capacity). CallsBelow r t x z) on k in
-    let maps : Maps no_network 2 (below h) x (y ++ z) = subst (λ (i : ℕ). Maps no_network i (below h) x (y ++ z)) two (f x z calls) in
+    let maps : MapLines no_network 2 (below h) x (y ++ z) = subst (λ (i : ℕ). MapLines no_network i (below h) x (y ++ z)) two (f x z calls) in
     (y ++ z, (g ∙ rw (e, append_assoc), inr (short, rw (sym (begun.all_below short)) (headed (below s) (below h) x (y ++ z) first maps))))

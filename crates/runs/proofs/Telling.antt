@@ -7,7 +7,7 @@ use Rattle.history.specs.History.{Reached}
 use Rattle.history.proofs.Together.{lawfully}
 use Rattle.history.proofs.Turning.{turned_reached}
 use Rattle.runs.specs.Lines.{Outcome, unread, turn, session_number, Lines, events}
-use Rattle.runs.specs.Runs.{Calls}
+use Rattle.runs.specs.Runs.{CallLines}
 use Rattle.runs.specs.Running.{Turns}
 
 lines_reached : (m : Capacity) (ls : List (List ℕ)) (os : List Outcome) (h : List Event) (s t : State) → Reached m session_number h s → Lines s ls os t → Reached m session_number (events os h) t
@@ -17,7 +17,7 @@ lines_reached m (l ∷ ls) (unread e ∷ os) h s t so (u, line, rest) = lines_re
 lines_reached m (l ∷ ls) (turn k a xs r ∷ os) h s t so (u, line, rest) = lines_reached m ls os _ u t (turned_reached m session_number session_number h s u k a xs so line.1) rest
 
 -- the turns of a session begun afresh over a register that means m
-pub told : (m : Capacity) → Sound m → (n : ℕ) (ls : List (List ℕ)) (t : State) (out : List ℕ) → Turns (fresh session_number m) n ls t out → Calls m n ls t out
+pub told : (m : Capacity) → Sound m → (n : ℕ) (ls : List (List ℕ)) (t : State) (out : List ℕ) → Turns (fresh session_number m) n ls t out → CallLines m n ls t out
 told m sound n ls t out r = record {
   outcomes = r.outcomes;
   each = r.each;

@@ -8,7 +8,7 @@ use Rattle.reading.specs.Reading.{ahead, below}
 use Rattle.reading.specs.Output.{mark}
 use Rattle.runs.specs.Lines.{Outcome, Line, Lines, printed, all_printed}
 use Rattle.runs.specs.Maps.{Linked, MapLine, map_printed, register_on}
-use Rattle.runs.specs.Runs.{Calls, Maps, ComesTo}
+use Rattle.runs.specs.Runs.{CallLines, MapLines, ComesTo}
 
 -- the first line is mark and version, and is read
 abbrev pub FirstLine : List (List ℕ) → Bool → List (List ℕ) → Type 0
@@ -29,13 +29,13 @@ Allowing = State → List ℕ → Type 0
 abbrev pub Printed : Allowing → Allowing → List ℕ → List ℕ → Type 0
 Printed P Q out out' = (text : List ℕ) × ((out' ≡ out ++ text) × ((t : State) (more : List ℕ) → Q t more → P t (text ++ more)))
 
--- what the lines after the line at hand may print: of the map
+-- what the lines after the line at hand may print, while the map is made
 abbrev pub MapsBelow : Network → Reader → Allowing
-MapsBelow m s = Maps m (s.lines + 1) (below s)
+MapsBelow m s = MapLines m (s.lines + 1) (below s)
 
--- of calls, over a register that means m
+-- what they may print once the map is made, over a register that means m
 abbrev pub CallsBelow : Capacity → Reader → Allowing
-CallsBelow m s = Calls m (s.lines + 1) (below s)
+CallsBelow m s = CallLines m (s.lines + 1) (below s)
 
 -- what the lines from number n on print, from the session s on, which becomes t
 pub record Turns (s : State) (n : ℕ) (ls : List (List ℕ)) (t : State) (out : List ℕ) : Type 0 where
@@ -43,7 +43,7 @@ pub record Turns (s : State) (n : ℕ) (ls : List (List ℕ)) (t : State) (out :
   pub each : Lines s ls outcomes t
   pub text : out ≡ all_printed n outcomes
 
--- of calls, on the session s
+-- what they may print from the session s on
 abbrev pub TurnsBelow : State → Reader → Allowing
 TurnsBelow s r = Turns s (r.lines + 1) (below r)
 

@@ -19,19 +19,19 @@ use Rattle.runs.specs.Maps.{Linked, MapLine, map_printed, register_on}
 
 -- The lines from number n on, over a register that means m, print this text and leave the session t: the text is the printed form of a
 -- history of a session begun afresh, lawful at every point of it.
-pub record Calls (m : Capacity) (n : ℕ) (ls : List (List ℕ)) (t : State) (out : List ℕ) : Type 0 where
+pub record CallLines (m : Capacity) (n : ℕ) (ls : List (List ℕ)) (t : State) (out : List ℕ) : Type 0 where
   pub outcomes : List Outcome
   pub each : Lines (fresh session_number m) ls outcomes t
   pub text : out ≡ all_printed n outcomes
   pub lawful : Lawfully m session_number (events outcomes []) t
 
 -- the M lines (77); the first line with another letter ends the map, whatever comes of it
-abbrev pub Maps : Network → ℕ → List (List ℕ) → State → List ℕ → Type 0
-Maps m n [] t out = Calls (register_on m) n [] t out
-Maps m n (l ∷ ls) t out =
+abbrev pub MapLines : Network → ℕ → List (List ℕ) → State → List ℕ → Type 0
+MapLines m n [] t out = CallLines (register_on m) n [] t out
+MapLines m n (l ∷ ls) t out =
     ((first_letter (words l) ≡ Some 77)
-    × ((r : Linked) × (m' : Network) × (more : List ℕ) × (MapLine 1 m (after_letter (words l)) r m' × (out ≡ map_printed n r ++ more) × Maps m' (n + 1) ls t more)))
-    ⊎ ((first_letter (words l) ≢ Some 77) × Calls (register_on m) n (l ∷ ls) t out)
+    × ((r : Linked) × (m' : Network) × (more : List ℕ) × (MapLine 1 m (after_letter (words l)) r m' × (out ≡ map_printed n r ++ more) × MapLines m' (n + 1) ls t more)))
+    ⊎ ((first_letter (words l) ≢ Some 77) × CallLines (register_on m) n (l ∷ ls) t out)
 
 -- a script whose form is wrong is refused as line n, and leaves no session
 abbrev pub Misformed : ℕ → Option State → List ℕ → Type 0
@@ -41,7 +41,7 @@ Misformed n t out = (t ≡ None) × (out ≡ refusal_line n (word_number Form) (
 abbrev pub Headed : List (List ℕ) → Option State → List ℕ → Type 0
 Headed [] t out = Misformed 1 t out
 Headed (l ∷ ls) t out =
-    ((l ≡ mark) × ((u : State) × ((t ≡ Some u) × Maps no_network 2 ls u out)))
+    ((l ≡ mark) × ((u : State) × ((t ≡ Some u) × MapLines no_network 2 ls u out)))
     ⊎ ((l ≢ mark) × Misformed 1 t out)
 
 -- a script that is too long is refused as line 0

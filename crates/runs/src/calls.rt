@@ -27,8 +27,7 @@ use std::alloc::AllocError;
 const SESSION_NUMBER: u32 = 1;
 
 // Makes a call, runs its round to its end and prints its trades.
-// The parameters here and below are those of `perform`, with reader and text: lines are read with the one and printed with the other
-// alone, so a struct of both would be borrowed apart in each call.
+// The parameters are those of `perform`, with the text.
 fn take_turn<R: Register>(
     session: &mut Session<R>,
     pass: QuietPass,
@@ -46,8 +45,8 @@ fn take_turn<R: Register>(
     Ok((answer, pass))
 }
 
-// An answer as what the line comes to, the session's fault carried upward whole.
-fn outcome(answer: Answer) -> Result<(), LineFault>
+// Whether the call was accepted, the session's fault carried upward whole.
+fn accepted(answer: Answer) -> Result<(), LineFault>
     ensures { result ≡ upward ASession (acceptance answer) }
 {
     answer?;
@@ -63,13 +62,15 @@ fn print_answer(
 ) -> Result<(), AllocError>
     ensures { OnOk result (string_bytes out.new ≡ string_bytes out.old ++ answer_line line answer resting) }
 {
-    match outcome(answer) {
+    match accepted(answer) {
         Ok(()) => quiet(out, resting),
         Err(fault) => refuse(out, line, &fault),
     }
 }
 
 // Runs the line at hand on a session.
+// Reader and text stay two parameters here and below: lines are read with the one and printed with the other alone,
+// so a struct of both would be borrowed apart in each call.
 fn run_line<R: Register>(
     session: &mut Session<R>,
     pass: QuietPass,

@@ -28,10 +28,7 @@ pub struct Ran {
 fn header(reader: &mut Reader) -> bool
     ensures { HeaderRead reader.old result reader.new }
 {
-    reader.next_line()
-        && reader
-            .line()
-            .is_some_and(|line| line == b"CTM 1".as_slice())
+    reader.next_line() && reader.line() == Some(b"CTM 1".as_slice())
 }
 
 // Runs a script, after mark and version are printed.

@@ -8,6 +8,7 @@ ghost use Rattle.screens.specs.Printing.{Adds};
 
 use crate::faults::ScreenFault;
 use crate::lines::{print_book_line, print_capacity_line};
+use book::places::PLACES;
 use book::rows::Side;
 use capacity::register::Register;
 use routes::AREAS;
@@ -16,10 +17,10 @@ use std::alloc::Global;
 use views::lines::{BookLine, CapacityLine};
 use views::{book_view, capacity_view};
 
-// A line for every two areas, and one for each place of the book: no view has more.
+// A line for every two areas, since a register of one's own may join them all, and one for each place of the book: no view has more.
 const CAPACITY_LINES: usize = (AREAS * AREAS) as usize;
 
-const BOOK_LINES: usize = 128;
+const BOOK_LINES: usize = PLACES;
 
 const NO_CAPACITY: CapacityLine = CapacityLine {
     atc: 0,
