@@ -2,7 +2,6 @@
 pub mod Unique
 pub mod Carried
 pub mod Members
-mod Made
 mod Tables
 mod Ranked
 mod Choosing

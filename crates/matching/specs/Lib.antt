@@ -2,4 +2,5 @@
 pub mod Pairs
 pub mod Ways
 pub mod Orders
+pub mod Spans
 pub mod Bests

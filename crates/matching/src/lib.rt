@@ -4,6 +4,7 @@
 mod choice;
 mod pairs;
 pub mod round;
+mod spans;
 mod ways;
 
 pub use choice::{Pair, choose};

@@ -5,16 +5,18 @@ ghost use Rattle.matching.specs.Bests.{Pairs};
 ghost use Rattle.matching.specs.Ways.{Leading};
 
 use crate::round::Round;
+use crate::spans::Span;
 use crate::ways::Ways;
 use book::places::Book;
 use book::rows::{Order, Side};
 
-// A round over a book, with the ways between the areas.
+// A round over a book, with the ways between the areas and the span of the round.
 #[derive(Clone, Copy)]
 pub(crate) struct Pairing<'b> {
     pub(crate) book: &'b Book,
     pub(crate) ways: Ways,
     pub(crate) round: Round,
+    pub(crate) span: Span,
 }
 
 // Whether they are a buy and a sell of one contract whose limits meet.

@@ -4,7 +4,7 @@ pub mod Reached
 pub mod Unique
 pub mod Carried
 pub mod Repeats
-mod Made
+pub mod Made
 mod Found
 mod Falls
 mod Greedy

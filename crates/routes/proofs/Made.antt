@@ -8,15 +8,15 @@ use Rattle.std.specs.Fn.{Mut, Called}
 pub blank : {A : Type 0} (n k : ℕ) (x : A) → get_or (replicate n x) k x ≡ x
 blank n k x = elim (cases_lt k n) [ inl l ↦ get_or-replicate n k x x l | inr l ↦ get_or_past (replicate n x) k x (rw length-replicate l) ]
 
-module _ {F : Type 0} (g : Mut F (ℕ × Unit {0}) ℕ) (f : F) (ys : List ℕ) (P : ℕ → ℕ → Type 0) (m : ℕ) (calls : (k y : ℕ) (q : F) → k < m → Called g f (k, tt) y q → (q ≡ f) × P k y) where
-  made_from : (i n : ℕ) → i + n ≡ m → IsFromFnResultFrom g f ys i n → (k : ℕ) → i ≤ k → k < m → P k (get_or ys k 0)
-  made_from i zero s e k l u = absurd (omega arith)
-  made_from i (suc n) s e k l u =
+module _ {F B : Type 0} (g : Mut F (ℕ × Unit {0}) B) (f : F) (ys : List B) (P : ℕ → B → Type 0) (m : ℕ) (calls : (k : ℕ) (y : B) (q : F) → k < m → Called g f (k, tt) y q → (q ≡ f) × P k y) where
+  made_from : (i n : ℕ) → i + n ≡ m → IsFromFnResultFrom g f ys i n → (k : ℕ) (d : B) → i ≤ k → k < m → P k (get_or ys k d)
+  made_from i zero s e k d l u = absurd (omega arith)
+  made_from i (suc n) s e k d l u =
       let r = calls i e.1 e.0 (omega arith) e.3 in
       elim (cases_eq i k) [
-        | inl z ↦ subst (λ j. P j (get_or ys j 0)) z (subst (P i) (sym (e.2.1 0)) r.1)
-        | inr z ↦ made_from (i + 1) n (omega arith) (subst (λ p. IsFromFnResultFrom g p ys (i + 1) n) r.0 e.4) k (omega arith) u
+        | inl z ↦ subst (λ j. P j (get_or ys j d)) z (subst (P i) (sym (e.2.1 d)) r.1)
+        | inr z ↦ made_from (i + 1) n (omega arith) (subst (λ p. IsFromFnResultFrom g p ys (i + 1) n) r.0 e.4) k d (omega arith) u
       ]
 
-  pub made : IsFromFnResult g f ys m → (k : ℕ) → k < m → P k (get_or ys k 0)
-  made e k l = made_from 0 m (omega arith) e.each k (omega arith) l
+  pub made : IsFromFnResult g f ys m → (k : ℕ) (d : B) → k < m → P k (get_or ys k d)
+  made e k d l = made_from 0 m (omega arith) e.each k d (omega arith) l

@@ -2,7 +2,7 @@
 use Rattle.std.proofs.Common.{rules}
 use Rattle.routes.specs.Grids.{Leads}
 use Rattle.matching.specs.Ways.{Tells}
-use Rattle.matching.proofs.Made.{made}
+use Rattle.routes.proofs.Made.{made}
 use Rattle.matching.proofs.Tables.{tells}
 use Rattle.matching.proofs.ways.Ways.of.Goals as goal
 

@@ -5,4 +5,4 @@ use Rattle.routes.proofs.Made.{made}
 use Rattle.routes.proofs.levels.Levelled.swept.Goals as goal
 
 pub returns : goal.returns
-returns c = made _ _ c.from_fn.result (Next (Leads c.args.self.now.grid.now) c.args.self.now.levels.sizes c.args.level) 16 (λ k y q l h. search rules) c.from_fn.ensures.items
+returns c = λ a l. made _ _ c.from_fn.result (Next (Leads c.args.self.now.grid.now) c.args.self.now.levels.sizes c.args.level) 16 (λ k y q m h. search rules) c.from_fn.ensures.items a 0 l
