@@ -9,4 +9,4 @@ mod Found
 mod Falls
 mod Greedy
 pub mod Ends
-mod Diamond
+pub mod Diamond
