@@ -27,25 +27,37 @@ if grep -q '^rt: ok.*, [1-9][0-9]* bad' "$log"; then
     echo "test.sh: a must-fail edit is bad"
 fi
 
-# Beside each script of samples/ stands what the program must print of it, and beside some the views of contract 3 at its end.
-(cd crates/rounds && rt run) </dev/null >"$work/rounds.log" 2>&1 || tail -n 8 "$work/rounds.log"
-for script in samples/*.ctm; do
-    sample=${script%.ctm}
-    options=() views=/dev/null
-    if [ -f "$sample.views" ]; then
-        options=(--views 3) views=$sample.views
-    fi
-    crates/rounds/out/rounds "${options[@]}" "$script" >"$work/out" 2>"$work/views"
-    if [ -s "$work/out" ] && cmp -s "$work/out" "$sample.out" && cmp -s "$work/views" "$views"; then
+# Runs the program: its exit status, what it prints and what it shows on standard error must be as told.
+program() {
+    local name=$1 status=$2 printed=$3 shown=$4
+    shift 4
+    crates/rounds/out/rounds "$@" >"$work/printed" 2>"$work/shown"
+    if [ $? -eq "$status" ] && cmp -s "$work/printed" "$printed" && cmp -s "$work/shown" "$shown"; then
         passed=$((passed + 1))
-        echo "$sample: printed as it must be"
+        echo "$name: as it must be"
     else
         failed=$((failed + 1))
-        echo "$sample: NOT PRINTED as it must be:"
-        diff "$work/out" "$sample.out" | head -n 8
-        diff "$work/views" "$views" | head -n 8
+        echo "$name: NOT as it must be:"
+        diff "$work/printed" "$printed" | head -n 8
+        diff "$work/shown" "$shown" | head -n 8
+    fi
+}
+
+(cd crates/rounds && rt run) </dev/null >"$work/rounds.log" 2>&1 || tail -n 8 "$work/rounds.log"
+# Beside each script of samples/ stands what it prints, and beside some the views of contract 3 at its end.
+for script in samples/*.ctm; do
+    sample=${script%.ctm}
+    if [ -f "$sample.views" ]; then
+        program "$sample, with views" 0 "$sample.out" "$sample.views" --views 3 "$script"
+    else
+        program "$sample" 0 "$sample.out" /dev/null "$script"
     fi
 done
+printf 'CTM 1\nR 0 17 0\n' >"$work/out"
+head -c 65537 /dev/zero >"$work/overlong"
+program "an overlong script" 0 "$work/out" /dev/null "$work/overlong"
+echo "Error: the views of contract 24 are refused by 2" >"$work/err"
+program "views of no contract" 1 samples/trade.out "$work/err" --views 24 samples/trade.ctm
 
 # A text under refused/ names in its first two lines the error it must meet and the crates it stands on,
 # and marks by '// refused here' the line at which the compiler must stop. Each is tried as a crate of its own,
