@@ -1,4 +1,5 @@
-// Worked rounds: one that a grant opens, one that goes to the better price across a border, and those of a changed iceberg.
+// Worked rounds: one that a grant opens, one that goes to the better price across a border, and those of a changed iceberg;
+// and a pass of another session.
 ghost use Rattle.std.specs.Prelude.{◌≡◌, Some};
 
 use crate::entries::{Change, Entry};
@@ -156,6 +157,22 @@ fn refused_by(
         Err(Refused { fault, pass }) => Ok((fault.number(), pass)),
         Ok(RoundPass { number: _ }) => Err(Fail::new("changed")),
     }
+}
+
+// A pass of another session is refused and comes back, and is of use on its own.
+#[test]
+fn pass_of_another_session(rt: HostRuntime) -> Result<(), Fail> {
+    let (mut session, _pass) = Session::begin(7, ConnectorMap::new().into_register());
+    let (mut other, pass) = Session::begin(8, ConnectorMap::new().into_register());
+    let pass = match session.close(pass, CONTRACT) {
+        Err(Refused { fault, pass }) => {
+            assert_eq!(rt; fault.number(), 1);
+            pass
+        }
+        Ok(_) => return Err(Fail::new("closed")),
+    };
+    assert!(rt; other.close(pass, CONTRACT).is_ok());
+    Ok(())
 }
 
 #[test]
