@@ -4,4 +4,5 @@ pub mod Reading
 pub mod Faults
 pub mod Fields
 pub mod Output
+pub mod Printing
 pub mod Making
