@@ -37,7 +37,7 @@ pub take_noted : (m : Capacity) (c a b q : ℕ) → Sound m → Ok tt ≡ answer
 take_noted m c a b q sound e = granted_noted m sound c a b q (passes_granted m c a b q (answered_passes (take_tests m c a b q) e))
 
 -- what a take leaves that no test refuses
-pub take_leaves : (m n : Capacity) (c a b q : ℕ) (s t v w : Side) → Sound m → Ok tt ≡ answered (take_tests m c a b q) → Shows m c a b s t → v ≡ cond (lt_z (flow s t) (pos q)) s (taken_there s t q) → w ≡ cond (lt_z (flow s t) (pos q)) t (taken_back t q) → n ≡ paired m c a b v w → n ≡ resulting (take_tests m c a b q) m (taken m c a b q)
+pub take_leaves : (m n : Capacity) (c a b q : ℕ) (s t v w : Side) → Sound m → Ok tt ≡ answered (take_tests m c a b q) → Shows m c a b s t → v ≡ cond (lt_z (flow s t 0) (pos q)) s (taken_there s t q) → w ≡ cond (lt_z (flow s t 0) (pos q)) t (taken_back t q) → n ≡ paired m c a b v w → n ≡ resulting (take_tests m c a b q) m (taken m c a b q)
 take_leaves m n c a b q s t v w sound e h hv hw hn =
     hn
     ∙ ap (λ (z : Side). paired m c a b z w) (hv ∙ ap (λ (z : Bool). cond z s (taken_there s t q)) flows)
@@ -51,7 +51,7 @@ take_leaves m n c a b q s t v w sound e h hv hw hn =
     d : m.noted c a b ≡ true
     d = take_noted m c a b q sound e
 
-    flows : lt_z (flow s t) (pos q) ≡ false
+    flows : lt_z (flow s t 0) (pos q) ≡ false
     flows = rw (shown_atc m c a b s t h) p.1.1.1.0
 
 -- what a notice leaves that no test refuses

@@ -38,7 +38,8 @@ impl<'a> Register for CellRegister<'a> {
             return None;
         }
         let pair = self.pair(direction);
-        Some(pair.atc())
+        // Nothing is held. `as`, since figures and use are small: `try_from` would add a refusal that cannot be.
+        Some(pair.atc(0) as i32)
     }
 
     fn held(&self, direction: Direction) -> Option<u32> {
