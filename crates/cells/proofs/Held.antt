@@ -72,8 +72,8 @@ sides_first xs k c a b i d u v apart e p q =
     let w = says_first (λ y. y.pair.there) (λ y. y.pair.back) no_side (take k xs) c a b i d e in (
       p ∙ sym (w.0 ∙ ap (says (λ y. y.pair.there) (λ y. y.pair.back) c a b) at),
       q
-      ∙ other (is_way_in x.direction.contract x.direction.from x.direction.to c a b) (is_way_in x.direction.contract x.direction.from x.direction.to c b a) (turned x c a b apart (ap (λ y. names y c a b) (sym at) ∙ s.1))
-      ∙ sym (w.1 ∙ ap (says (λ y. y.pair.there) (λ y. y.pair.back) c b a) at),
+          ∙ other (is_way_in x.direction.contract x.direction.from x.direction.to c a b) (is_way_in x.direction.contract x.direction.from x.direction.to c b a) (turned x c a b apart (ap (λ y. names y c a b) (sym at) ∙ s.1))
+          ∙ sym (w.1 ∙ ap (says (λ y. y.pair.there) (λ y. y.pair.back) c b a) at),
     )
   where
     x : Cell

@@ -1,7 +1,6 @@
 // The cells are a register: nothing is held, and as many pairs can be noted as there are cells.
 // Its own calls say of the cells that were lent what the trait cannot: which one each call sets, and that all others stay.
-ghost use Rattle.std.specs.Prelude.{◌≡◌, [], length};
-ghost use Rattle.std.specs.Result.{OnOk, OnErr};
+ghost use Rattle.std.specs.Prelude.{◌≡◌, length, OnOk, OnErr};
 ghost use Rattle.capacity.specs.Tests.{answered, resulting, said};
 ghost use Rattle.capacity.specs.Faults.{told};
 ghost use Rattle.capacity.specs.Meaning.{taken, noticed};
@@ -25,7 +24,7 @@ impl<'a> CellRegister<'a> {
     // None noted, whatever the cells hold, and all of them stay as they are lent.
     pub fn new(map: &'a ConnectorMap, cells: &'a mut [Cell]) -> CellRegister<'a>
         ensures meaning { cells_of result ≡ unnoted (network_of map.now).joins (length cells.old) }
-        ensures none_in_use { in_use result ≡ [] }
+        ensures none_in_use { result.count ≡ 0 }
         ensures lent { lent result ≡ cells.old }
         ensures same_cells { lent_name result ≡ cells.entry.ghost_name }
     {
@@ -49,44 +48,7 @@ impl<'a> CellRegister<'a> {
         ensures cells { result.now ≡ lent self.entry }
         ensures same_cells { result.ghost_name ≡ lent_name self.entry }
     {
-        let CellRegister {
-            map: _,
-            cells,
-            count: _,
-        } = self;
-        cells
-    }
-
-    // As the trait's, and sets the first cell in use for the pair. A refusal writes in no cell.
-    pub fn take(&mut self, direction: Direction, quantity: u32) -> Result<(), RegisterFault>
-        ensures answer { said told result ≡ answered (take_tests (cells_of self.old) direction.contract direction.from direction.to quantity) }
-        ensures after { cells_of self.new ≡ resulting (take_tests (cells_of self.old) direction.contract direction.from direction.to quantity) (cells_of self.old) (taken (cells_of self.old) direction.contract direction.from direction.to quantity) }
-        ensures refused { OnErr result (self.new ≡ self.old) }
-        ensures set { OnOk result (SetByTake self.old self.new direction quantity) }
-        ensures count { self.new.count ≡ self.old.count }
-        ensures same_cells { lent_name self.new ≡ lent_name self.old }
-    {
-        let flow = self.atc(direction);
-        check_take(direction, quantity, flow)?;
-        let pair = self.pair(direction);
-        self.put(direction, pair.taken(quantity));
-        Ok(())
-    }
-
-    // As the trait's, and sets the first cell in use for the pair, or the first spare one. A refusal writes in no cell.
-    pub fn notice(&mut self, direction: Direction, figures: Figures) -> Result<(), RegisterFault>
-        ensures answer { said told result ≡ answered (notice_tests (cells_of self.old) direction.contract direction.from direction.to figures) }
-        ensures after { cells_of self.new ≡ resulting (notice_tests (cells_of self.old) direction.contract direction.from direction.to figures) (cells_of self.old) (noticed (cells_of self.old) direction.contract direction.from direction.to figures) }
-        ensures refused { OnErr result (self.new ≡ self.old) }
-        ensures set { OnOk result (SetByNotice self.old self.new direction figures) }
-        ensures same_cells { lent_name self.new ≡ lent_name self.old }
-    {
-        let joined = self.map.joins(direction.from, direction.to);
-        let full = self.full(direction);
-        check_notice(direction, figures, joined, full)?;
-        let pair = self.pair(direction);
-        self.put(direction, pair.noticed(figures));
-        Ok(())
+        self.cells
     }
 }
 
@@ -109,11 +71,35 @@ impl<'a> Register for CellRegister<'a> {
         self.map.serves(direction).then_some(0)
     }
 
-    fn take(&mut self, direction: Direction, quantity: u32) -> Result<(), RegisterFault> {
-        CellRegister::take(self, direction, quantity)
+    // As the trait's, and sets the first cell in use for the pair. A refusal writes in no cell.
+    fn take(&mut self, direction: Direction, quantity: u32) -> Result<(), RegisterFault>
+        ensures answer { said told result ≡ answered (take_tests (cells_of self.old) direction.contract direction.from direction.to quantity) }
+        ensures after { cells_of self.new ≡ resulting (take_tests (cells_of self.old) direction.contract direction.from direction.to quantity) (cells_of self.old) (taken (cells_of self.old) direction.contract direction.from direction.to quantity) }
+        ensures refused { OnErr result (self.new ≡ self.old) }
+        ensures set { OnOk result (SetByTake self.old self.new direction quantity) }
+        ensures count { self.new.count ≡ self.old.count }
+        ensures same_cells { lent_name self.new ≡ lent_name self.old }
+    {
+        let flow = self.atc(direction);
+        check_take(direction, quantity, flow)?;
+        let pair = self.pair(direction);
+        self.put(direction, pair.taken(quantity));
+        Ok(())
     }
 
-    fn notice(&mut self, direction: Direction, figures: Figures) -> Result<(), RegisterFault> {
-        CellRegister::notice(self, direction, figures)
+    // As the trait's, and sets the first cell in use for the pair, or the first spare one. A refusal writes in no cell.
+    fn notice(&mut self, direction: Direction, figures: Figures) -> Result<(), RegisterFault>
+        ensures answer { said told result ≡ answered (notice_tests (cells_of self.old) direction.contract direction.from direction.to figures) }
+        ensures after { cells_of self.new ≡ resulting (notice_tests (cells_of self.old) direction.contract direction.from direction.to figures) (cells_of self.old) (noticed (cells_of self.old) direction.contract direction.from direction.to figures) }
+        ensures refused { OnErr result (self.new ≡ self.old) }
+        ensures set { OnOk result (SetByNotice self.old self.new direction figures) }
+        ensures same_cells { lent_name self.new ≡ lent_name self.old }
+    {
+        let joined = self.map.joins(direction.from, direction.to);
+        let full = self.full(direction);
+        check_notice(direction, figures, joined, full)?;
+        let pair = self.pair(direction);
+        self.put(direction, pair.noticed(figures));
+        Ok(())
     }
 }

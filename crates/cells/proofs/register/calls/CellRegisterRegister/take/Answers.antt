@@ -1,5 +1,5 @@
 -- A take from the cells: refused by its tests, or carried out.
-use Rattle.std.proofs.Common.{◌≡◌, ℕ, Ok, Err, None, sym, refl, ap, ◌∙◌}
+use Rattle.std.proofs.Common.{◌≡◌, ℕ, Ok, Err, None, refl, ap, ◌∙◌}
 use Rattle.std.proofs.lemmas.Bool.{and_parts, both_ways}
 use Rattle.std.proofs.lemmas.Result.{err_from_is_err_and, IfOk-from_err}
 use Rattle.std.specs.List.{position}
@@ -16,7 +16,7 @@ use Rattle.cells.specs.Shapes.{in_use, cells_of}
 use Rattle.cells.specs.Soundness.{cells_sound}
 use Rattle.cells.proofs.Held.{noted_none}
 use Rattle.cells.proofs.Lent.{set_sides, set_in_use}
-use Rattle.cells.proofs.register.CellRegister.take.Goals as goal
+use Rattle.cells.proofs.register.calls.CellRegisterRegister.take.Goals as goal
 
 -- the pair of a take that no test refuses has a cell
 some_cell : (t : CellRegister) (d : Direction) (n : ℕ) → Ok tt ≡ answered (take_tests (cells_of t) d.contract d.from d.to n) → None ≡ position (λ x. names x d.contract d.from d.to) (in_use t) → ⊥
@@ -62,8 +62,8 @@ returns c =
       after = take_leaves m _ d.contract d.from d.to n _ _ _ _ (cells_sound t) e pair.shows c.taken.ensures.there c.taken.ensures.back c.put.ensures.meaning;
       refused = tt;
       set = set_sides t _ d _ _ _ _ c.put.ensures.set
-      (sides.0 ∙ ap (λ (s : Side). taken_there s c.pair-pair.result.back n) pair.there ∙ ap (λ (s : Side). taken_there (side_of t d) s n) pair.back)
-      (sides.1 ∙ ap (λ (s : Side). taken_back s n) pair.back);
+          (sides.0 ∙ ap (λ (s : Side). taken_there s c.pair-pair.result.back n) pair.there ∙ ap (λ (s : Side). taken_there (side_of t d) s n) pair.back)
+          (sides.1 ∙ ap (λ (s : Side). taken_back s n) pair.back);
       count = set_in_use t _ d _ _ (some_cell t d n e) c.put.ensures.set;
       same_cells = c.put.ensures.same_cells;
     }

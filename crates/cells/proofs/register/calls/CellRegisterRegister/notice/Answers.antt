@@ -15,7 +15,7 @@ use Rattle.cells.specs.Shapes.{in_use, cells_of}
 use Rattle.cells.specs.Soundness.{cells_sound}
 use Rattle.cells.proofs.Held.{room_left}
 use Rattle.cells.proofs.Lent.{set_sides}
-use Rattle.cells.proofs.register.CellRegister.notice.Goals as goal
+use Rattle.cells.proofs.register.calls.CellRegisterRegister.notice.Goals as goal
 
 -- what the register says of a pair that exists
 room : (t : CellRegister) (d : Direction) {j full : Bool} → full ≡ (not (noted_in (in_use t) d.contract d.from d.to) && eqb (length t.cells.now - t.count) 0) → j ≡ linked t.map.now.links.joined d.from d.to → d.contract ≤ 23 → j ≡ true → full ≡ (not ((cells_of t).noted d.contract d.from d.to) && eqb (cells_of t).room 0)
@@ -61,7 +61,7 @@ returns c =
       after = notice_leaves m _ d.contract d.from d.to f _ _ _ _ (cells_sound t) e pair.shows c.noticed.ensures.there c.noticed.ensures.back c.put.ensures.meaning;
       refused = tt;
       set = set_sides t _ d _ _ _ _ c.put.ensures.set
-      (sides.0 ∙ ap (λ (s : Side). figured s f.ntc f.aac) pair.there)
-      (sides.1 ∙ ap (λ (s : Side). figured s f.ntc_back f.aac_back) pair.back);
+          (sides.0 ∙ ap (λ (s : Side). figured s f.ntc f.aac) pair.there)
+          (sides.1 ∙ ap (λ (s : Side). figured s f.ntc_back f.aac_back) pair.back);
       same_cells = c.put.ensures.same_cells;
     }
