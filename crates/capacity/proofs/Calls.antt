@@ -36,12 +36,20 @@ notice_served js m c a b f j e =
 pub take_noted : (m : Capacity) (c a b q : ℕ) → Sound m → Ok tt ≡ answered (take_tests m c a b q) → m.noted c a b ≡ true
 take_noted m c a b q sound e = granted_noted m sound c a b q (passes_granted m c a b q (answered_passes (take_tests m c a b q) e))
 
--- what a take leaves that no test refuses
-pub take_leaves : (m n : Capacity) (c a b q : ℕ) (s t v w : Side) → Sound m → Ok tt ≡ answered (take_tests m c a b q) → Shows m c a b s t → v ≡ cond (lt_z (flow s t) (pos q)) s (taken_there s t q) → w ≡ cond (lt_z (flow s t) (pos q)) t (taken_back t q) → n ≡ paired m c a b v w → n ≡ resulting (take_tests m c a b q) m (taken m c a b q)
+-- what a take that no test refuses leaves of the two sides
+pub take_sides : (m : Capacity) (c a b q : ℕ) (s t v w : Side) → Ok tt ≡ answered (take_tests m c a b q) → Shows m c a b s t → v ≡ cond (lt_z (flow s t 0) (pos q)) s (taken_there s t q) → w ≡ cond (lt_z (flow s t 0) (pos q)) t (taken_back t q) → (v ≡ taken_there s t q) × (w ≡ taken_back t q)
+take_sides m c a b q s t v w e h hv hw =
+    let flows : lt_z (flow s t 0) (pos q) ≡ false = rw (shown_atc m c a b s t h) (answered_passes (take_tests m c a b q) e).1.1.1.0 in (
+      hv ∙ ap (λ (z : Bool). cond z s (taken_there s t q)) flows,
+      hw ∙ ap (λ (z : Bool). cond z t (taken_back t q)) flows,
+    )
+
+-- and of the register
+pub take_leaves : (m n : Capacity) (c a b q : ℕ) (s t v w : Side) → Sound m → Ok tt ≡ answered (take_tests m c a b q) → Shows m c a b s t → v ≡ cond (lt_z (flow s t 0) (pos q)) s (taken_there s t q) → w ≡ cond (lt_z (flow s t 0) (pos q)) t (taken_back t q) → n ≡ paired m c a b v w → n ≡ resulting (take_tests m c a b q) m (taken m c a b q)
 take_leaves m n c a b q s t v w sound e h hv hw hn =
     hn
-    ∙ ap (λ (z : Side). paired m c a b z w) (hv ∙ ap (λ (z : Bool). cond z s (taken_there s t q)) flows)
-    ∙ ap (λ (z : Side). paired m c a b (taken_there s t q) z) (hw ∙ ap (λ (z : Bool). cond z t (taken_back t q)) flows)
+    ∙ ap (λ (z : Side). paired m c a b z w) sides.0
+    ∙ ap (λ (z : Side). paired m c a b (taken_there s t q) z) sides.1
     ∙ paired_taken m c a b q s t h (sound.apart a b (not-false _ p.1.1.0)) d (sound.both_noted c a b ∙ d)
     ∙ passes_resulting (take_tests m c a b q) m (taken m c a b q) p
   where
@@ -51,17 +59,28 @@ take_leaves m n c a b q s t v w sound e h hv hw hn =
     d : m.noted c a b ≡ true
     d = take_noted m c a b q sound e
 
-    flows : lt_z (flow s t) (pos q) ≡ false
-    flows = rw (shown_atc m c a b s t h) p.1.1.1.0
+    sides : (v ≡ taken_there s t q) × (w ≡ taken_back t q)
+    sides = take_sides m c a b q s t v w e h hv hw
 
--- what a notice leaves that no test refuses
+-- what a notice that no test refuses leaves of the two sides
+pub notice_sides : (m : Capacity) (c a b : ℕ) (f : Figures) (s t v w : Side) → Ok tt ≡ answered (notice_tests m c a b f) → v ≡ cond (large f) s (figured s f.ntc f.aac) → w ≡ cond (large f) t (figured t f.ntc_back f.aac_back) → (v ≡ figured s f.ntc f.aac) × (w ≡ figured t f.ntc_back f.aac_back)
+notice_sides m c a b f s t v w e hv hw =
+    let small : large f ≡ false = (answered_passes (notice_tests m c a b f) e).1.1.0 in (
+      hv ∙ ap (λ (z : Bool). cond z s (figured s f.ntc f.aac)) small,
+      hw ∙ ap (λ (z : Bool). cond z t (figured t f.ntc_back f.aac_back)) small,
+    )
+
+-- and of the register
 pub notice_leaves : (m n : Capacity) (c a b : ℕ) (f : Figures) (s t v w : Side) → Sound m → Ok tt ≡ answered (notice_tests m c a b f) → Shows m c a b s t → v ≡ cond (large f) s (figured s f.ntc f.aac) → w ≡ cond (large f) t (figured t f.ntc_back f.aac_back) → n ≡ paired m c a b v w → n ≡ resulting (notice_tests m c a b f) m (noticed m c a b f)
 notice_leaves m n c a b f s t v w sound e h hv hw hn =
     hn
-    ∙ ap (λ (z : Side). paired m c a b z w) (hv ∙ ap (λ (z : Bool). cond z s (figured s f.ntc f.aac)) p.1.1.0)
-    ∙ ap (λ (z : Side). paired m c a b (figured s f.ntc f.aac) z) (hw ∙ ap (λ (z : Bool). cond z t (figured t f.ntc_back f.aac_back)) p.1.1.0)
+    ∙ ap (λ (z : Side). paired m c a b z w) sides.0
+    ∙ ap (λ (z : Side). paired m c a b (figured s f.ntc f.aac) z) sides.1
     ∙ paired_noticed m c a b f s t h (sound.apart a b (not-false _ p.1.0))
     ∙ passes_resulting (notice_tests m c a b f) m (noticed m c a b f) p
   where
     p : Passes (notice_tests m c a b f)
     p = answered_passes (notice_tests m c a b f) e
+
+    sides : (v ≡ figured s f.ntc f.aac) × (w ≡ figured t f.ntc_back f.aac_back)
+    sides = notice_sides m c a b f s t v w e hv hw

@@ -22,7 +22,7 @@ made_same m n n' l l' u u' d d' r r' en el eu ed er =
     ∙ ap (λ (f : ℕ → ℕ → ℕ → Bool). made m n' l' u' f r) ed
     ∙ ap (λ (k : ℕ). made m n' l' u' d' k) er
 
-pub shown_atc : (m : Capacity) (c a b : ℕ) (s t : Side) → Shows m c a b s t → flow s t ≡ atc m c a b
+pub shown_atc : (m : Capacity) (c a b : ℕ) (s t : Side) → Shows m c a b s t → flow s t 0 ≡ atc m c a b
 shown_atc m c a b s t h = rw (sym h.ntc, sym h.aac, sym h.aac_back, sym h.net, h.free) (omega (arith, ints))
 
 -- a pair from which something can be taken is noted

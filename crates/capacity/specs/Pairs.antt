@@ -4,9 +4,9 @@ use Rattle.capacity.specs.declared.side.Side.{Side}
 use Rattle.capacity.specs.Directions.{put}
 use Rattle.capacity.specs.Meaning.{Capacity}
 
--- what can still flow by s, with t the way back and nothing held
-abbrev pub flow : Side → Side → ℤ
-flow s t = ((pos s.ntc -ℤ pos s.aac) +ℤ pos t.aac) -ℤ (pos s.used -ℤ pos t.used)
+-- what can still flow by s, with t the way back and h held
+abbrev pub flow : Side → Side → ℕ → ℤ
+flow s t h = ((pos s.ntc -ℤ pos s.aac) +ℤ pos t.aac) -ℤ (pos h +ℤ (pos s.used -ℤ pos t.used))
 
 -- s once q more is taken, with t the way back: what was taken back is freed first
 abbrev pub taken_there : Side → Side → ℕ → Side

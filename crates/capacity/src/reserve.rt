@@ -1,5 +1,5 @@
 // The reserve layer: a register that keeps more back than the one below it, and is as that one in all else.
-ghost use Rattle.std.specs.Prelude.{◌≡◌, ◌+◌, ◌≤◌, min};
+ghost use Rattle.std.specs.Prelude.{◌≡◌, ◌+◌, min};
 ghost use Rattle.capacity.specs.Meaning.{reserved};
 ghost use Rattle.capacity.specs.Shapes.{network_of, kept_of, layered};
 ghost use Rattle.capacity.specs.Soundness.{layered_sound};
@@ -50,10 +50,10 @@ impl<R: Register> Reserve<R> {
 impl<R> Reserve<R> {
     // What is held where the register below holds `held`.
     fn raised(&self, held: u32, direction: Direction) -> u32
-        requires { held ≤ 99999 }
         ensures { result ≡ min (held + kept_of self.now.wishes direction.from direction.to) 99999 }
     {
-        (held + self.wishes.kept(direction.from, direction.to)).min(TOP_FIGURE)
+        held.saturating_add(self.wishes.kept(direction.from, direction.to))
+            .min(TOP_FIGURE)
     }
 }
 

@@ -63,21 +63,18 @@ room_left xs n c a b o h e =
 
 -- ---- a pair read
 
-pub shows_none : (js : List Bool) (ys : List Cell) (n c a b : ℕ) (u v : Side) → Served (linked js) c a b → None ≡ position (λ x. names x c a b) ys → u ≡ no_side → v ≡ no_side → Shows (celled (linked js) ys n) c a b u v
-shows_none js ys n c a b u v h e p q =
-    let o = on_known (linked js) c a b h.contract h.joined in
-    let w = says_none (λ x. x.pair.there) (λ x. x.pair.back) no_side ys c a b e in
-    sided_shows (linked js) (side_in ys) (λ c' a' b'. on (linked js) c' a' b' && noted_in ys c' a' b') n c a b u v o (on_back js c a b o) (p ∙ sym w.0) (q ∙ sym w.1)
+pub sides_none : (ys : List Cell) (c a b : ℕ) (u v : Side) → None ≡ position (λ x. names x c a b) ys → u ≡ no_side → v ≡ no_side → (u ≡ side_in ys c a b) × (v ≡ side_in ys c b a)
+sides_none ys c a b u v e p q =
+    let w = says_none (λ x. x.pair.there) (λ x. x.pair.back) no_side ys c a b e in (p ∙ sym w.0, q ∙ sym w.1)
 
-pub shows_first : (js : List Bool) (xs : List Cell) (k n c a b i : ℕ) (d : Cell) (u v : Side) → Served (linked js) c a b → position (λ x. names x c a b) (take k xs) ≡ Some i → u ≡ cond (is_way_in (get_or xs i d).direction.contract (get_or xs i d).direction.from (get_or xs i d).direction.to c a b) (get_or xs i d).pair.there (get_or xs i d).pair.back → v ≡ cond (is_way_in (get_or xs i d).direction.contract (get_or xs i d).direction.from (get_or xs i d).direction.to c a b) (get_or xs i d).pair.back (get_or xs i d).pair.there → Shows (celled (linked js) (take k xs) n) c a b u v
-shows_first js xs k n c a b i d u v h e p q =
-    let o = on_known (linked js) c a b h.contract h.joined in
-    let w = says_first (λ y. y.pair.there) (λ y. y.pair.back) no_side (take k xs) c a b i d e in
-    sided_shows (linked js) (side_in (take k xs)) (λ c' a' b'. on (linked js) c' a' b' && noted_in (take k xs) c' a' b') n c a b u v o (on_back js c a b o)
-    (p ∙ sym (w.0 ∙ ap (says (λ y. y.pair.there) (λ y. y.pair.back) c a b) at))
-    (q
-    ∙ other (is_way_in x.direction.contract x.direction.from x.direction.to c a b) (is_way_in x.direction.contract x.direction.from x.direction.to c b a) (turned x c a b h.apart (ap (λ y. names y c a b) (sym at) ∙ s.1))
-    ∙ sym (w.1 ∙ ap (says (λ y. y.pair.there) (λ y. y.pair.back) c b a) at))
+pub sides_first : (xs : List Cell) (k c a b i : ℕ) (d : Cell) (u v : Side) → (a ≡ b → ⊥) → position (λ x. names x c a b) (take k xs) ≡ Some i → u ≡ cond (is_way_in (get_or xs i d).direction.contract (get_or xs i d).direction.from (get_or xs i d).direction.to c a b) (get_or xs i d).pair.there (get_or xs i d).pair.back → v ≡ cond (is_way_in (get_or xs i d).direction.contract (get_or xs i d).direction.from (get_or xs i d).direction.to c a b) (get_or xs i d).pair.back (get_or xs i d).pair.there → (u ≡ side_in (take k xs) c a b) × (v ≡ side_in (take k xs) c b a)
+sides_first xs k c a b i d u v apart e p q =
+    let w = says_first (λ y. y.pair.there) (λ y. y.pair.back) no_side (take k xs) c a b i d e in (
+      p ∙ sym (w.0 ∙ ap (says (λ y. y.pair.there) (λ y. y.pair.back) c a b) at),
+      q
+          ∙ other (is_way_in x.direction.contract x.direction.from x.direction.to c a b) (is_way_in x.direction.contract x.direction.from x.direction.to c b a) (turned x c a b apart (ap (λ y. names y c a b) (sym at) ∙ s.1))
+          ∙ sym (w.1 ∙ ap (says (λ y. y.pair.there) (λ y. y.pair.back) c b a) at),
+    )
   where
     x : Cell
     x = get_or xs i d
@@ -91,6 +88,11 @@ shows_first js xs k n c a b i d u v h e p q =
     other : (t r : Bool) → r ≡ not t → cond t x.pair.back x.pair.there ≡ cond r x.pair.there x.pair.back
     other true r f = rw f refl
     other false r f = rw f refl
+
+pub sides_show : (js : List Bool) (ys : List Cell) (n c a b : ℕ) (u v : Side) → Served (linked js) c a b → (u ≡ side_in ys c a b) × (v ≡ side_in ys c b a) → Shows (celled (linked js) ys n) c a b u v
+sides_show js ys n c a b u v h e =
+    let o = on_known (linked js) c a b h.contract h.joined in
+    sided_shows (linked js) (side_in ys) (λ c' a' b'. on (linked js) c' a' b' && noted_in ys c' a' b') n c a b u v o (on_back js c a b o) e.0 e.1
 
 -- ---- a pair written
 

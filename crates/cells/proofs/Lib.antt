@@ -2,3 +2,4 @@
 pub mod Named
 pub mod Said
 pub mod Held
+pub mod Lent

@@ -2,5 +2,6 @@
 pub mod Cells
 pub mod Meaning
 pub mod Shapes
+pub mod Lent
 pub mod Soundness
 pub mod Quotes

@@ -6,6 +6,6 @@ mod calls;
 
 #[derive(Clone, Copy)]
 pub struct Cell {
-    pub(crate) direction: Direction,
-    pub(crate) pair: Pair,
+    pub direction: Direction,
+    pub pair: Pair,
 }

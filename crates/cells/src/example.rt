@@ -1,5 +1,5 @@
 // A worked example: a reserve layer over cells that the caller lends, as any register.
-ghost use Rattle.std.specs.Prelude.{◌≡◌, length, pos, Some};
+ghost use Rattle.std.specs.Prelude.{◌≡◌, length, drop, pos, Some};
 ghost use Rattle.capacity.specs.Meaning.{reserved};
 ghost use Rattle.capacity.specs.Shapes.{network_of};
 ghost use Rattle.cells.specs.Meaning.{unnoted};
@@ -54,4 +54,12 @@ pub fn one_cell() -> Quote
     let _ = map.connect(0, 1, 0, 0);
     let mut cells = [Cell::new()];
     ask_in(&map, &mut cells)
+}
+
+// One pair noted in cells that were lent with anything in them: all beyond the first are as they were.
+pub fn note_one(map: &ConnectorMap, cells: &mut [Cell])
+    ensures { drop 1 cells.new ≡ drop 1 cells.old }
+{
+    let mut register = CellRegister::new(map, cells);
+    let _ = register.notice(WAY, FIGURES);
 }

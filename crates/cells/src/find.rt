@@ -5,6 +5,7 @@ ghost use Rattle.capacity.specs.Pairs.{Shows};
 ghost use Rattle.capacity.specs.Shapes.{network_of};
 ghost use Rattle.cells.specs.Cells.{names, noted_in};
 ghost use Rattle.cells.specs.Shapes.{in_use, cells_of};
+ghost use Rattle.cells.specs.Lent.{side_of, side_back};
 
 use crate::register::CellRegister;
 use capacity::direction::Direction;
@@ -32,7 +33,9 @@ impl<'a> CellRegister<'a> {
     // `Served` is a fact of the map and the direction together, so no field of either can hold it.
     pub(crate) fn pair(&self, direction: Direction) -> Pair
         requires { Served (network_of self.now.map.now).joins direction.contract direction.from direction.to }
-        ensures { Shows (cells_of self.now) direction.contract direction.from direction.to result.there result.back }
+        ensures shows { Shows (cells_of self.now) direction.contract direction.from direction.to result.there result.back }
+        ensures there { result.there ≡ side_of self.now direction }
+        ensures back { result.back ≡ side_back self.now direction }
     {
         let Some(i) = self.find(direction) else {
             return Pair::none();

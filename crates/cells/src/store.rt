@@ -5,6 +5,7 @@ ghost use Rattle.capacity.specs.Pairs.{paired};
 ghost use Rattle.capacity.specs.Shapes.{network_of};
 ghost use Rattle.cells.specs.Cells.{names};
 ghost use Rattle.cells.specs.Shapes.{in_use, cells_of};
+ghost use Rattle.cells.specs.Lent.{lent_name, OneSet};
 
 use crate::cell::Cell;
 use crate::register::CellRegister;
@@ -16,7 +17,9 @@ impl<'a> CellRegister<'a> {
     pub(crate) fn put(&mut self, direction: Direction, pair: Pair)
         requires served { Served (network_of self.old.map.now).joins direction.contract direction.from direction.to }
         requires room { None ≡ position (λ x. names x direction.contract direction.from direction.to) (in_use self.old) → self.old.count < length self.old.cells.now }
-        ensures { cells_of self.new ≡ paired (cells_of self.old) direction.contract direction.from direction.to pair.there pair.back }
+        ensures meaning { cells_of self.new ≡ paired (cells_of self.old) direction.contract direction.from direction.to pair.there pair.back }
+        ensures set { OneSet self.old self.new direction pair.there pair.back }
+        ensures same_cells { lent_name self.new ≡ lent_name self.old }
     {
         let count = self.count;
         let cell = Cell { direction, pair };

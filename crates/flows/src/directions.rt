@@ -8,8 +8,8 @@ use capacity::direction::Direction;
 use capacity::register::Register;
 use routes::{AREAS, Grid};
 
-// What must at least flow for a direction to be open.
-const LEAST_FLOW: u32 = 1;
+// The least ATC of a direction that is open.
+const LEAST_ATC: i32 = 1;
 
 // What can still flow in a direction, 0 where its areas are not joined or the ATC is below nought.
 pub(crate) fn flow_between<R: Register>(register: &R, direction: Direction) -> u32
@@ -24,7 +24,7 @@ pub(crate) fn flow_between<R: Register>(register: &R, direction: Direction) -> u
 fn is_open<R: Register>(register: &R, direction: Direction) -> bool
     ensures { result ≡ open_in (R.Register.meaning register.now) direction.contract direction.from direction.to }
 {
-    direction.from != direction.to && flow_between(register, direction) >= LEAST_FLOW
+    direction.from != direction.to && register.atc(direction).is_some_and(|atc| atc >= LEAST_ATC)
 }
 
 // Sets the directions that lead from one area.

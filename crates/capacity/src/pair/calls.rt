@@ -1,5 +1,5 @@
 // What can flow in a pair, and what a take and a notice make of it.
-ghost use Rattle.std.specs.Prelude.{◌≡◌, cond, pos, int_lt};
+ghost use Rattle.std.specs.Prelude.{◌≡◌, cond, pos, ◌-ℤ◌, int_lt};
 ghost use Rattle.capacity.specs.Sides.{no_side};
 ghost use Rattle.capacity.specs.Pairs.{flow, taken_there, taken_back, figured};
 ghost use Rattle.capacity.specs.Answers.{large};
@@ -29,22 +29,30 @@ impl Pair {
         }
     }
 
-    // What can still flow there.
-    pub fn atc(self) -> i32
-        ensures { result ≡ flow self.there self.back }
+    // What was taken there beyond what was taken back, below nought where more was taken back.
+    fn net(self) -> i64
+        ensures { result ≡ pos self.there.used -ℤ pos self.back.used }
     {
-        let gain = self.there.ntc + self.back.aac + self.back.used;
-        let loss = self.there.aac + self.there.used;
-        // `as`, since both are below 2^31: `try_from` would add a refusal that cannot be.
-        gain as i32 - loss as i32
+        i64::from(self.there.used) - i64::from(self.back.used)
+    }
+
+    // What can still flow there with `held` held back, below nought where more was taken than there now is.
+    // In 64 bits, so that any `held` may be asked for.
+    pub fn atc(self, held: u32) -> i64
+        ensures { result ≡ flow self.there self.back held }
+    {
+        let ntc = i64::from(self.there.ntc);
+        let aac = i64::from(self.there.aac);
+        let aac_back = i64::from(self.back.aac);
+        ntc - aac + aac_back - i64::from(held) - self.net()
     }
 
     // After a take there, which first frees what was taken back; as it was if less can flow.
     pub fn taken(self, quantity: u32) -> Pair
-        ensures there { result.there ≡ cond (int_lt (flow self.there self.back) (pos quantity)) self.there (taken_there self.there self.back quantity) }
-        ensures back { result.back ≡ cond (int_lt (flow self.there self.back) (pos quantity)) self.back (taken_back self.back quantity) }
+        ensures there { result.there ≡ cond (int_lt (flow self.there self.back 0) (pos quantity)) self.there (taken_there self.there self.back quantity) }
+        ensures back { result.back ≡ cond (int_lt (flow self.there self.back 0) (pos quantity)) self.back (taken_back self.back quantity) }
     {
-        if i64::from(self.atc()) < i64::from(quantity) {
+        if self.atc(0) < i64::from(quantity) {
             return self;
         }
         let Pair { there, back } = self;

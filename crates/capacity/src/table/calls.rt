@@ -70,7 +70,8 @@ impl Register for FullTable {
             return None;
         }
         let pair = self.pair(direction);
-        Some(pair.atc())
+        // Nothing is held. `as`, since figures and use are small: `try_from` would add a refusal that cannot be.
+        Some(pair.atc(0) as i32)
     }
 
     fn held(&self, direction: Direction) -> Option<u32> {

@@ -1,8 +1,14 @@
 // The cells are a register: nothing is held, and as many pairs can be noted as there are cells.
-ghost use Rattle.std.specs.Prelude.{◌≡◌, length};
+// Its own calls say of the cells that were lent what the trait cannot: which one each call sets, and that all others stay.
+ghost use Rattle.std.specs.Prelude.{◌≡◌, length, OnOk, OnErr};
+ghost use Rattle.capacity.specs.Tests.{answered, resulting, said};
+ghost use Rattle.capacity.specs.Faults.{told};
+ghost use Rattle.capacity.specs.Meaning.{taken, noticed};
+ghost use Rattle.capacity.specs.Answers.{take_tests, notice_tests};
 ghost use Rattle.capacity.specs.Shapes.{network_of};
 ghost use Rattle.cells.specs.Meaning.{unnoted};
-ghost use Rattle.cells.specs.Shapes.{cells_of};
+ghost use Rattle.cells.specs.Shapes.{in_use, cells_of};
+ghost use Rattle.cells.specs.Lent.{lent, lent_name, SetByTake, SetByNotice};
 ghost use Rattle.cells.specs.Soundness.{cells_sound};
 
 use crate::cell::Cell;
@@ -15,15 +21,34 @@ use capacity::map::ConnectorMap;
 use capacity::register::Register;
 
 impl<'a> CellRegister<'a> {
-    // None noted, whatever the cells held before.
+    // None noted, whatever the cells hold, and all of them stay as they are lent.
     pub fn new(map: &'a ConnectorMap, cells: &'a mut [Cell]) -> CellRegister<'a>
-        ensures { cells_of result ≡ unnoted (network_of map.now).joins (length cells.old) }
+        ensures meaning { cells_of result ≡ unnoted (network_of map.now).joins (length cells.old) }
+        ensures none_in_use { result.count ≡ 0 }
+        ensures lent { lent result ≡ cells.old }
+        ensures same_cells { lent_name result ≡ cells.entry.ghost_name }
     {
         CellRegister {
             map,
             cells,
             count: 0,
         }
+    }
+
+    // The cells in use, in the order in which their pairs were first noted.
+    pub fn in_use(&self) -> &[Cell]
+        ensures { result.now ≡ in_use self.now }
+    {
+        let count = self.count.min(self.cells.len());
+        &self.cells[..count]
+    }
+
+    // Ends the register, and gives all cells back as they then are.
+    pub fn into_cells(self) -> &'a mut [Cell]
+        ensures cells { result.now ≡ lent self.entry }
+        ensures same_cells { result.ghost_name ≡ lent_name self.entry }
+    {
+        self.cells
     }
 }
 
@@ -38,14 +63,23 @@ impl<'a> Register for CellRegister<'a> {
             return None;
         }
         let pair = self.pair(direction);
-        Some(pair.atc())
+        // Nothing is held. `as`, since figures and use are small: `try_from` would add a refusal that cannot be.
+        Some(pair.atc(0) as i32)
     }
 
     fn held(&self, direction: Direction) -> Option<u32> {
         self.map.serves(direction).then_some(0)
     }
 
-    fn take(&mut self, direction: Direction, quantity: u32) -> Result<(), RegisterFault> {
+    // As the trait's, and sets the first cell in use for the pair. A refusal writes in no cell.
+    fn take(&mut self, direction: Direction, quantity: u32) -> Result<(), RegisterFault>
+        ensures answer { said told result ≡ answered (take_tests (cells_of self.old) direction.contract direction.from direction.to quantity) }
+        ensures after { cells_of self.new ≡ resulting (take_tests (cells_of self.old) direction.contract direction.from direction.to quantity) (cells_of self.old) (taken (cells_of self.old) direction.contract direction.from direction.to quantity) }
+        ensures refused { OnErr result (self.new ≡ self.old) }
+        ensures set { OnOk result (SetByTake self.old self.new direction quantity) }
+        ensures count { self.new.count ≡ self.old.count }
+        ensures same_cells { lent_name self.new ≡ lent_name self.old }
+    {
         let flow = self.atc(direction);
         check_take(direction, quantity, flow)?;
         let pair = self.pair(direction);
@@ -53,7 +87,14 @@ impl<'a> Register for CellRegister<'a> {
         Ok(())
     }
 
-    fn notice(&mut self, direction: Direction, figures: Figures) -> Result<(), RegisterFault> {
+    // As the trait's, and sets the first cell in use for the pair, or the first spare one. A refusal writes in no cell.
+    fn notice(&mut self, direction: Direction, figures: Figures) -> Result<(), RegisterFault>
+        ensures answer { said told result ≡ answered (notice_tests (cells_of self.old) direction.contract direction.from direction.to figures) }
+        ensures after { cells_of self.new ≡ resulting (notice_tests (cells_of self.old) direction.contract direction.from direction.to figures) (cells_of self.old) (noticed (cells_of self.old) direction.contract direction.from direction.to figures) }
+        ensures refused { OnErr result (self.new ≡ self.old) }
+        ensures set { OnOk result (SetByNotice self.old self.new direction figures) }
+        ensures same_cells { lent_name self.new ≡ lent_name self.old }
+    {
         let joined = self.map.joins(direction.from, direction.to);
         let full = self.full(direction);
         check_notice(direction, figures, joined, full)?;

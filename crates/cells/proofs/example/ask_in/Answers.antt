@@ -8,4 +8,4 @@ use Rattle.cells.proofs.example.ask_in.Goals as goal
 pub returns : goal.returns
 returns c =
     c.ask.ensures
-    ∙ ap quote_of (c.new-register.ensures.keeps ∙ ap (λ (m : Capacity). reserved m (kept_of c.args.map.now.wishes)) c.new-below.ensures)
+    ∙ ap quote_of (c.new-register.ensures.keeps ∙ ap (λ (m : Capacity). reserved m (kept_of c.args.map.now.wishes)) c.new-below.ensures.meaning)

@@ -14,7 +14,7 @@ returns-in_err-check_take g c =
     let d = c.args.direction in
     let n = reserved (g.R.Register.meaning c.args.self.now.below) (kept_of c.args.self.now.wishes) in
     let p = err_from_is_err_and c.from_residual.result c.from_residual.ensures.1 in
-    let r = refused (take_tests n d.contract d.from d.to c.args.quantity) n _ _ _ (p.1 ∙ ap Err p.2) (c.in_err-check_take.ensures n c.atc-flow.ensures) in
+    let r = refused (take_tests n d.contract d.from d.to c.args.quantity) n _ _ _ (p.1 ∙ ap Err p.2) (c.in_err-check_take.ensures.answer n c.atc-flow.ensures) in
     record { answer = r.0; after = r.1 }
 
 pub returns : goal.returns
@@ -26,7 +26,7 @@ returns g c =
     let x = c.args.direction.from in
     let y = c.args.direction.to in
     let q = c.args.quantity in
-    let e = c.in_ok-check_take.ensures n c.atc-flow.ensures in
+    let e = c.in_ok-check_take.ensures.answer n c.atc-flow.ensures in
     let above = answered_passes (take_tests n k x y q) e in
     let below = granted_passes m k x y q (granted_below m w (g.R.Register.sound c.args.self.now.below) k x y q (passes_granted n k x y q above)) in
     record {

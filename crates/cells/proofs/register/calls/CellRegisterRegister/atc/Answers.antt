@@ -12,5 +12,5 @@ returns c =
     let t = c.args.self.now in
     let d = c.args.direction in
     let s = on_served t.map.now.links.joined d.contract d.from d.to (sym c.if-not-serves.ensures) in
-    let e = shown_atc (cells_of t) d.contract d.from d.to _ _ c.pair-pair.ensures in
+    let e = shown_atc (cells_of t) d.contract d.from d.to _ _ c.pair-pair.ensures.shows in
     asked_known (cells_of t) d.contract d.from d.to _ _ s.contract s.joined (omega (arith, ints))
