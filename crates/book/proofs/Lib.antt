@@ -1,7 +1,8 @@
 -- Lemmas that the functions' proofs share.
 pub mod Fronts
 pub mod Searches
-pub mod Filling
+pub mod Renewing
+pub mod Sifting
 pub mod Striking
 pub mod Ranking
 pub mod Lasting

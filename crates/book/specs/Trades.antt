@@ -1,5 +1,5 @@
 -- What a trade does to the book.
-use Rattle.std.specs.Prelude.{ℕ, Bool, cond, not, ◌&&◌, ◌||◌, List, ◌++◌, map, filter, ◌==◌, nat_lt}
+use Rattle.std.specs.Prelude.{ℕ, Bool, cond, not, ◌&&◌, ◌||◌, List, [], ◌∷◌, ◌++◌, map, filter, ◌==◌, nat_lt}
 use Rattle.book.specs.declared.rows.Order.{Order}
 use Rattle.book.specs.Orders.{lessened, next_slice, shows, run_out, is_ice, moved, beyond}
 
@@ -22,3 +22,7 @@ renewable o = is_ice o.kind && (run_out o && (nat_lt 0 o.peak && not (beyond (mo
 -- the book after a trade, whatever rows it holds: what cannot be renewed leaves
 abbrev pub settled_rows : ℕ → ℕ → ℕ → List Order → List Order
 settled_rows b s q os = renewed_by renewable (map (struck b s q) os)
+
+-- what a row that has run out leaves as the newest
+abbrev pub renewal : Order → List Order
+renewal o = cond (renewable o) (next_slice o ∷ []) []

@@ -1,10 +1,12 @@
 // The book: the orders of all contracts, oldest first.
-ghost use Rattle.std.specs.Prelude.{◌≡◌, ◌≤◌, Bool, [], length, None};
+ghost use Rattle.std.specs.Prelude.{◌≡◌, ◌<◌, ◌≤◌, Bool, [], ◌∷◌, ◌++◌, length, None};
 ghost use Rattle.std.specs.Fn.{FnReturnsAt};
-ghost use Rattle.std.specs.List.{filter};
+ghost use Rattle.std.specs.List.{filter, AllByRecursion};
+ghost use Rattle.book.specs.Icebergs.{Iced};
 ghost use Rattle.book.specs.Orderly.{Fit, Orderly};
 ghost use Rattle.book.specs.Orders.{rests};
 ghost use Rattle.book.specs.Refusals.{told};
+ghost use Rattle.book.specs.Ranks.{order_at};
 ghost use Rattle.book.specs.declared.rows.Order.{Order};
 ghost use Rattle.book.specs.Places.{orders, append_refusal, appended, nth, without, place, Placed, numbered, numbered_of, of_contract, not_of_contract};
 
@@ -94,6 +96,7 @@ impl Book {
         ensures answer { told result ≡ append_refusal (orders self.old) }
         ensures after { orders self.new ≡ appended (orders self.old) order }
         ensures orderly { Orderly (orders self.old) → Fit order → place (numbered order.number) (orders self.old) ≡ None → Orderly (orders self.new) }
+        ensures iced { AllByRecursion Iced (orders self.old) → Iced order → AllByRecursion Iced (orders self.new) }
     {
         let n = self.len();
         if n < PLACES {
@@ -109,6 +112,7 @@ impl Book {
     pub fn remove(&mut self, at: usize)
         ensures after { orders self.new ≡ without (orders self.old) at }
         ensures orderly { Orderly (orders self.old) → Orderly (orders self.new) }
+        ensures iced { AllByRecursion Iced (orders self.old) → AllByRecursion Iced (orders self.new) }
     {
         let n = self.len();
         if at < n {
@@ -117,24 +121,35 @@ impl Book {
         }
     }
 
-    // Keeps the orders that pass a test.
+    // Makes the order at `at` the newest.
+    pub(crate) fn make_newest(&mut self, at: usize)
+        requires { at < length (orders self.old) }
+        ensures { orders self.new ≡ without (orders self.old) at ++ order_at (orders self.old) at ∷ [] }
+    {
+        let n = self.len();
+        self.rows[at..n].rotate_left(1);
+    }
+
+    // Keeps the orders that pass a test; where all do, nothing is moved.
     pub(crate) fn retain<F: Fn(&Order) -> bool>(&mut self, keep: F)
         requires { F.IsAlwaysCallable keep }
         ensures { (p : Order → Bool) → ((o : Order) (r : Bool) → FnReturnsAt F.Fn keep o r → r ≡ p o) → orders self.new ≡ filter p (orders self.old) }
     {
-        let mut left = Book::new();
-        for row in self.in_use() {
-            if keep(row) {
-                let _ = left.append(*row);
+        let mut at = 0;
+        for _row in 0..self.len() {
+            if keep(&self.rows[at]) {
+                at += 1;
+            } else {
+                self.remove(at);
             }
         }
-        *self = left;
     }
 
     // Takes the order of this number out if it is IOC, which never rests.
     pub fn drop_ioc(&mut self, incoming: u32)
         ensures after { orders self.new ≡ filter (rests incoming) (orders self.old) }
         ensures orderly { Orderly (orders self.old) → Orderly (orders self.new) }
+        ensures iced { AllByRecursion Iced (orders self.old) → AllByRecursion Iced (orders self.new) }
     {
         self.retain(|row| row.rests(incoming));
     }
@@ -144,6 +159,7 @@ impl Book {
         ensures answer { result ≡ length (filter (of_contract contract) (orders self.old)) }
         ensures after { orders self.new ≡ filter (not_of_contract contract) (orders self.old) }
         ensures orderly { Orderly (orders self.old) → Orderly (orders self.new) }
+        ensures iced { AllByRecursion Iced (orders self.old) → AllByRecursion Iced (orders self.new) }
     {
         let before = self.len();
         self.retain(|row| row.contract != contract);

@@ -1,8 +1,8 @@
 // Slices: how a trade and a renewal change an order.
-ghost use Rattle.std.specs.Prelude.{◌≡◌, ◌^◌, ◌<◌, if◌then◌else◌, Some, None};
+ghost use Rattle.std.specs.Prelude.{◌≡◌, ◌^◌, ◌<◌, if◌then◌else◌, ◌||◌, ◌==◌, true, false, Some, None};
 ghost use Rattle.book.specs.Orders.{moved, beyond, lessened, next_slice, rests, shows};
-ghost use Rattle.book.specs.Trades.{renewable, struck};
-ghost use Rattle.book.specs.Icebergs.{is_iceberg, row_if, row_left, is_showing};
+ghost use Rattle.book.specs.Trades.{renewable};
+ghost use Rattle.book.specs.Icebergs.{is_iceberg, IcedIfShown, row_if, row_left, is_showing, sliced};
 
 use crate::iced::Iceberg;
 use crate::rows::{Kind, Order, Side};
@@ -41,6 +41,13 @@ impl Order {
         0 < self.shown
     }
 
+    // Whether it is one of the two orders with these numbers.
+    pub(crate) fn is_one_of(&self, buy: u32, sell: u32) -> bool
+        ensures { result ≡ (self.now.number == buy || self.now.number == sell) }
+    {
+        self.number == buy || self.number == sell
+    }
+
     // Whether it rests once the round of this incoming order is done.
     pub(crate) fn rests(&self, incoming: u32) -> bool
         ensures { result ≡ rests incoming self.now }
@@ -48,8 +55,9 @@ impl Order {
         self.kind != Kind::Ioc || self.number != incoming
     }
 
-    // The order less what a trade took.
-    pub(crate) fn lessened(&self, quantity: u32) -> Order
+    // The row less what a trade took; an iceberg is traded as one.
+    fn lessened(&self, quantity: u32) -> Order
+        requires { is_iceberg self.now ≡ false }
         ensures { result ≡ lessened quantity self.now }
     {
         Order {
@@ -59,42 +67,32 @@ impl Order {
         }
     }
 
-    // The order with its next slice, if its slice is used up, some is open, and it can show more at a limit in range.
-    pub(crate) fn next_slice(&self) -> Option<Order>
-        ensures { result ≡ (if renewable self.now then Some (next_slice self.now) else None) }
+    // Trades `quantity` off it.
+    pub(crate) fn trade(&mut self, quantity: u32)
+        ensures after { self.new ≡ lessened quantity self.old }
+        ensures iced { IcedIfShown self.old → IcedIfShown self.new }
     {
-        if self.kind == Kind::Ice && !self.shows() && 0 < self.open && 0 < self.peak {
-            let limit = moved(self.side, self.limit, u64::from(self.delta))?;
-            Some(Order {
-                limit,
-                shown: self.peak.min(self.open),
-                ..*self
-            })
-        } else {
-            None
-        }
-    }
-
-    // The row that a trade leaves, an iceberg's by way of the iceberg.
-    pub(crate) fn traded(&self, quantity: u32) -> Order
-        ensures { result ≡ lessened quantity self.now }
-    {
-        match Iceberg::of(self) {
-            Some(berg) => berg
-                .trade(quantity)
-                .map_or_else(|row| row, |rest| rest.order),
+        *self = match Iceberg::of(self) {
+            Some(berg) => match berg.trade(quantity) {
+                Ok(rest) => rest.row(),
+                Err(row) => row,
+            },
             None => self.lessened(quantity),
-        }
+        };
     }
 
-    // The row after a trade of `quantity` between the orders with these numbers.
-    pub(crate) fn struck(&self, buy: u32, sell: u32, quantity: u32) -> Order
-        ensures { result ≡ struck buy sell quantity self.now }
+    // Gives it its next slice, if its slice is used up, some is open, and it can show more at a limit in range; says whether it did.
+    pub(crate) fn renew(&mut self) -> bool
+        ensures answer { result ≡ renewable self.old }
+        ensures after { self.new ≡ (if renewable self.old then next_slice self.old else self.old) }
+        ensures iced { renewable self.old ≡ true → is_iceberg self.new ≡ true }
     {
-        if self.number == buy || self.number == sell {
-            self.traded(quantity)
-        } else {
-            *self
+        match Iceberg::renewed(self) {
+            Some(next) => {
+                *self = next.row();
+                true
+            }
+            None => false,
         }
     }
 }
@@ -115,16 +113,43 @@ impl Iceberg {
         }
     }
 
+    // The row that it is written back as.
+    pub(crate) fn row(self) -> Order
+        ensures row { result ≡ self.order }
+        ensures iced { is_iceberg result ≡ true }
+    {
+        self.order
+    }
+
+    // A row with the smaller of peak and open shown, its first slice or its next, if that makes it an iceberg.
+    pub(crate) fn sliced(row: &Order) -> Option<Iceberg>
+        ensures { row_if result ≡ (if is_iceberg (sliced row.now) then Some (sliced row.now) else None) }
+    {
+        Iceberg::of(&Order {
+            shown: row.peak.min(row.open),
+            ..*row
+        })
+    }
+
     // What a trade of `quantity` leaves: the iceberg while some is shown, and else the row, which is none until its next slice.
     pub(crate) fn trade(self, quantity: u32) -> Result<Iceberg, Order>
         ensures row { row_left result ≡ lessened quantity self.order }
         ensures showing { is_showing result ≡ shows (lessened quantity self.order) }
     {
-        let order = self.order.lessened(quantity);
-        if order.shows() {
-            Ok(Iceberg { order })
+        let row = self.order;
+        if quantity < row.shown {
+            let open = row.open - quantity;
+            let shown = row.shown - quantity;
+            Ok(Iceberg {
+                order: Order { open, shown, ..row },
+            })
         } else {
-            Err(order)
+            let open = row.open.saturating_sub(quantity);
+            Err(Order {
+                open,
+                shown: 0,
+                ..row
+            })
         }
     }
 
@@ -132,6 +157,10 @@ impl Iceberg {
     pub(crate) fn renewed(row: &Order) -> Option<Iceberg>
         ensures { row_if result ≡ (if renewable row.now then Some (next_slice row.now) else None) }
     {
-        Iceberg::of(&row.next_slice()?)
+        if row.shows() {
+            return None;
+        }
+        let limit = moved(row.side, row.limit, u64::from(row.delta))?;
+        Iceberg::sliced(&Order { limit, ..*row })
     }
 }

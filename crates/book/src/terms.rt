@@ -1,11 +1,13 @@
 // The check of an order's terms.
 ghost use Rattle.std.specs.Prelude.{◌≡◌, None};
-ghost use Rattle.book.specs.Orders.{entered, first_slice};
+ghost use Rattle.book.specs.Orders.{entered};
+ghost use Rattle.book.specs.Icebergs.{Iced, IcedIfShown, with_first_slice};
 ghost use Rattle.book.specs.Orderly.{Fit};
 ghost use Rattle.book.specs.Refusals.{told};
 ghost use Rattle.book.specs.Terms.{size_refusal, bounds_refusal, slice_refusal, ill_sliced, refusal};
 
 use crate::faults::BookFault;
+use crate::iced::Iceberg;
 use crate::rows::{Kind, Order, OrderTerms};
 use crate::slices::{beyond, moved};
 
@@ -75,25 +77,33 @@ impl OrderTerms {
         self.check_size()?;
         self.check_slices()
     }
-
-    // What is shown at first.
-    fn first_slice(&self) -> u32
-        ensures { result ≡ first_slice self.now.kind self.now.peak self.now.quantity }
-    {
-        match self.kind {
-            Kind::Non | Kind::Ioc => self.quantity,
-            Kind::Ice => self.peak.min(self.quantity),
-        }
-    }
 }
 
 impl Order {
+    // The row with what it shows at first, an iceberg by way of the iceberg.
+    fn with_first_slice(&self) -> Order
+        ensures order { result ≡ with_first_slice self.now }
+        ensures iced { IcedIfShown result }
+    {
+        match self.kind {
+            Kind::Non | Kind::Ioc => Order {
+                shown: self.open,
+                ..*self
+            },
+            Kind::Ice => match Iceberg::sliced(self) {
+                Some(berg) => berg.row(),
+                None => Order { shown: 0, ..*self },
+            },
+        }
+    }
+
     // An order as it is entered, with its first slice.
     pub fn entered(number: u32, member: u32, contract: u32, area: u32, terms: &OrderTerms) -> Order
         ensures order { result ≡ entered number member contract area terms.now }
         ensures fit { refusal terms.now ≡ None → Fit result }
+        ensures iced { refusal terms.now ≡ None → Iced result }
     {
-        Order {
+        let row = Order {
             number,
             member,
             contract,
@@ -102,9 +112,10 @@ impl Order {
             kind: terms.kind,
             limit: terms.limit,
             open: terms.quantity,
-            shown: terms.first_slice(),
+            shown: 0,
             peak: terms.peak,
             delta: terms.delta,
-        }
+        };
+        row.with_first_slice()
     }
 }

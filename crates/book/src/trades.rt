@@ -1,39 +1,54 @@
 // What a trade does to the book.
-ghost use Rattle.std.specs.Prelude.{◌≡◌, map};
+ghost use Rattle.std.specs.Prelude.{◌≡◌, ◌<◌, ◌++◌, length, map};
 ghost use Rattle.std.specs.List.{filter};
 ghost use Rattle.std.specs.List.{AllByRecursion};
-ghost use Rattle.book.specs.Orders.{shows};
 ghost use Rattle.book.specs.Orderly.{Fit, Orderly};
-ghost use Rattle.book.specs.Trades.{struck, renewable, renewed_by, settled, settled_rows};
-ghost use Rattle.book.specs.Places.{orders};
-ghost use Rattle.book.specs.Icebergs.{Iced};
+ghost use Rattle.book.specs.Trades.{struck, renewable, renewal, renewed_by, settled, settled_rows};
+ghost use Rattle.book.specs.Places.{orders, without};
+ghost use Rattle.book.specs.Ranks.{order_at};
+ghost use Rattle.book.specs.Icebergs.{Iced, IcedIfShown};
 ghost use Rattle.book.specs.Examples.{Examples};
 
-use crate::iced::Iceberg;
 use crate::places::Book;
-use crate::rows::Order;
 
 impl Book {
     // Trades `quantity` off the orders with these numbers, each in its place.
-    #[tactic(auto, using(crate::proofs::Striking::mark))]
     fn strike(&mut self, buy: u32, sell: u32, quantity: u32)
-        ensures { orders self.new ≡ map (struck buy sell quantity) (orders self.old) }
+        ensures after { orders self.new ≡ map (struck buy sell quantity) (orders self.old) }
+        ensures iced { AllByRecursion IcedIfShown (orders self.old) → AllByRecursion IcedIfShown (orders self.new) }
     {
         let n = self.len();
         for row in &mut self.rows[..n] {
-            *row = row.struck(buy, sell, quantity);
+            if row.is_one_of(buy, sell) {
+                row.trade(quantity);
+            }
         }
     }
 
-    // Keeps what shows, and makes the next slices of what has run out the newest, the older order's first.
-    fn renew(&mut self)
-        ensures { orders self.new ≡ renewed_by renewable (orders self.old) }
+    // Takes the row at `at`, which has run out, from its place: with its next slice it is the newest, and without one it leaves.
+    fn renew_at(&mut self, at: usize)
+        requires { at < length (orders self.old) }
+        ensures after { orders self.new ≡ without (orders self.old) at ++ renewal (order_at (orders self.old) at) }
+        ensures iced { AllByRecursion IcedIfShown (orders self.old) → AllByRecursion IcedIfShown (orders self.new) }
     {
-        let before = *self;
-        self.retain(Order::shows);
-        for row in before.in_use() {
-            if let Some(next) = Iceberg::renewed(row) {
-                let _ = self.append(next.order);
+        if self.rows[at].renew() {
+            self.make_newest(at);
+        } else {
+            self.remove(at);
+        }
+    }
+
+    // Keeps what shows in its place; of what has run out the next slices become the newest, the older order's first.
+    fn renew(&mut self)
+        ensures after { orders self.new ≡ renewed_by renewable (orders self.old) }
+        ensures iced { AllByRecursion IcedIfShown (orders self.old) → AllByRecursion Iced (orders self.new) }
+    {
+        let mut at = 0;
+        for _row in 0..self.len() {
+            if self.rows[at].shows() {
+                at += 1;
+            } else {
+                self.renew_at(at);
             }
         }
     }
@@ -45,6 +60,7 @@ impl Book {
         ensures rows { orders self.new ≡ settled_rows buy sell quantity (orders self.old) }
         ensures orderly { Orderly (orders self.old) → Orderly (orders self.new) }
         ensures iced { AllByRecursion Fit (orders self.old) → AllByRecursion Iced (orders self.old) }
+        ensures still_iced { AllByRecursion Iced (orders self.old) → AllByRecursion Iced (orders self.new) }
         ensures examples { Examples }
     {
         self.strike(buy, sell, quantity);

@@ -1,6 +1,9 @@
 -- How `Book::close` meets its contract.
 use Rattle.std.proofs.Common.{◌≡◌, length, filter, sym, refl, ap, subst, arith, rules}
 use Rattle.std.proofs.lemmas.List.Filters.{length-filter_both}
+use Rattle.std.specs.List.{AllByRecursion}
+use Rattle.std.proofs.ByRecursion.{all_kept_by}
+use Rattle.book.specs.Icebergs.{Iced}
 use Rattle.book.specs.Orderly.{Orderly}
 use Rattle.book.specs.Places.{orders, of_contract, not_of_contract}
 use Rattle.book.proofs.Orderliness.{orderly_kept}
@@ -22,4 +25,5 @@ returns c =
       answer = omega (arith, ap length e, length-filter_both (of_contract k) (not_of_contract k) (λ o. refl) os);
       after = e;
       orderly = λ f. subst Orderly (sym e) (orderly_kept (not_of_contract k) os f);
+      iced = λ h. subst (AllByRecursion Iced) (sym e) (all_kept_by (not_of_contract k) Iced os h);
     }

@@ -8,4 +8,4 @@ pub returns-clause-fit : goal.returns-clause-fit
 returns-clause-fit c =
     let t = c.args.terms.now in
     let f : SFits w32 t.limit = search rules in
-    λ h. simp (to_z-of_z, c.first_slice.ensures) (accepted c.args.number c.args.member c.args.contract c.args.area t h)
+    λ h. simp (to_z-of_z, c.with_first_slice.ensures.order) (accepted c.args.number c.args.member c.args.contract c.args.area t h)
