@@ -6,6 +6,7 @@ pub mod Slices
 pub mod Same
 pub mod Agreeing
 pub mod Bound
+pub mod Listing
 pub mod Dealing
 pub mod Accepted
 pub mod Means
@@ -18,6 +19,7 @@ pub mod AfterEntry
 pub mod AfterCalls
 pub mod AfterSteps
 pub mod Together
+pub mod Told
 pub mod Faults
 pub mod Once
 pub mod OneTurn

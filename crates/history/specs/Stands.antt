@@ -1,0 +1,58 @@
+-- When an order stands, by the events themselves: as what it was given, what has not taken it out since, and what was traded of it since.
+use Rattle.std.specs.Prelude.{◌≡◌, ℕ, ◌<◌, cond, ◌||◌, List, [], ◌∷◌, ◌++◌, map, Ok, Err, None, Option, ◌==◌}
+use Rattle.book.specs.declared.rows.Kind.TheVariants.{Ioc}
+use Rattle.capacity.specs.Meaning.{Capacity, Sound}
+use Rattle.routes.specs.Paths.{NoRepeat}
+use Rattle.session.specs.declared.entries.Change.{Change as AChange}
+use Rattle.session.specs.declared.entries.Entry.{Entry}
+use Rattle.session.specs.State.{State}
+use Rattle.events.specs.declared.calls.Call.TheVariants.{Enter, Change, Withdraw, Close}
+use Rattle.events.specs.declared.events.Event.{Event}
+use Rattle.events.specs.declared.events.Event.TheVariants.{Called, Stepped}
+use Rattle.history.specs.History.{Reached}
+use Rattle.history.specs.Standing.{◌∈◌, Standing, still_open, regiven, over_trades, standing}
+
+-- what steps answered as traded with the number n, as the buy's or as the sell's
+abbrev pub traded_of : ℕ → List Event → ℕ
+traded_of n = over_trades (λ t. cond (n == t.buy || n == t.sell) t.quantity 0)
+
+-- What takes out an order that was given so: its withdrawal and the closing of its contract, the end of a round if it is IOC, and a
+-- change of it, which gives it anew. What is refused takes nothing out.
+abbrev pub TakesOut : Event → Entry → Type 0
+TakesOut (Called p k (Err f)) x = ⊥
+TakesOut (Called p (Withdraw n m) (Ok a)) x = x.number ≡ n
+TakesOut (Called p (Close c) (Ok a)) x = x.contract ≡ c
+TakesOut (Called p (Change c) (Ok a)) x = x.number ≡ c.number
+TakesOut (Stepped p z (Ok None)) x = x.terms.kind ≡ Ioc
+TakesOut other x = ⊥
+
+-- all that happened since an order was given so: nothing took it out, this much was traded with its number, and it is not used up
+pub record Since (x : Standing) (since : List Event) : Type 0 where
+  pub stays : (e : Event) → e ∈ since → TakesOut e x.given → ⊥
+  pub traded : x.traded ≡ traded_of x.given.number since
+  pub some_open : 0 < still_open x
+
+-- An order stands after the events h, newest first, as its accepted entry gave it; or it stood as y before an accepted change, which
+-- gave it another limit and quantity and left the rest.
+pub data Stands : List Event → Standing → Type 0 where
+  entered : (h since before : List Event) (x : Standing) (p : ℕ) (a : Option ℕ)
+      → h ≡ since ++ Called p (Enter x.given) (Ok a) ∷ before
+      → Since x since
+      → Stands h x
+  changed : (h since before : List Event) (x y : Standing) (p : ℕ) (c : AChange) (a : Option ℕ)
+      → h ≡ since ++ Called p (Change c) (Ok a) ∷ before
+      → Stands before y
+      → y.given.number ≡ c.number
+      → x.given ≡ regiven y.given c.limit c.quantity
+      → Since x since
+      → Stands h x
+
+-- the list has each order that stands, has no other, and no number twice; so a sum over it is a sum over what stands
+pub record Lists (h : List Event) (l : List Standing) : Type 0 where
+  pub each : (x : Standing) → Stands h x → x ∈ l
+  pub only : (x : Standing) → x ∈ l → Stands h x
+  pub once : NoRepeat (map (λ x. x.given.number) l)
+
+-- over every register, for every session and every list of events, the list that is carried along the events is what stands
+abbrev pub StandingTold : Type 0
+StandingTold = (m : Capacity) (n : ℕ) (h : List Event) (s : State) → Sound m → Reached m n h s → Lists h (standing h)
