@@ -11,7 +11,7 @@ use Rattle.events.specs.declared.calls.Call.TheVariants.{Enter, Change, Withdraw
 use Rattle.events.specs.declared.events.Event.{Event}
 use Rattle.events.specs.declared.events.Event.TheVariants.{Called, Stepped}
 use Rattle.history.specs.Standing.{◌∈◌, Standing, still_open, newly, regiven, has_number, anew, with_trade, standing}
-use Rattle.history.specs.Stands.{traded_of, TakesOut, Since, Stands, entered, changed}
+use Rattle.history.specs.Stands.{traded_of, TakesOut, Remains, Gives, Stands, by_entry, by_change, stands}
 use Rattle.history.proofs.Agreeing.{anew_other}
 use Rattle.history.proofs.Members.{in_left, push_in, kept_in, map_in}
 use Rattle.history.proofs.Rows.{traded_in}
@@ -39,7 +39,7 @@ module _ (h since : List Event) (x : Standing) where
   same_before : x.traded ≡ traded_of x.given.number since → before ∈ standing h → x ∈ standing h
   same_before e i = subst (λ n. with_traded x n ∈ standing h) (sym e) i
 
-  list_keeps : (e : Event) → Since x (e ∷ since) → before ∈ standing h → x ∈ standing (e ∷ h)
+  list_keeps : (e : Event) → Remains x (e ∷ since) → before ∈ standing h → x ∈ standing (e ∷ h)
   list_keeps (Called p k (Err f)) s i = same_before s.traded i
   list_keeps (Called p (Enter e) (Ok a)) s i = in_left x (standing h) (newly e ∷ []) (same_before s.traded i)
   list_keeps (Called p (Change c) (Ok a)) s i =
@@ -69,24 +69,26 @@ traded_less n (Stepped p z (Err f)) since = omega arith
 traded_less n (Stepped p z (Ok (Some t))) since = omega arith
 traded_less n (Stepped p z (Ok None)) since = omega arith
 
-since_before : (e : Event) (since : List Event) (x : Standing) → Since x (e ∷ since) → Since (with_traded x (traded_of x.given.number since)) since
-since_before e since x s = record {
+remained : (e : Event) (since : List Event) (x : Standing) → Remains x (e ∷ since) → Remains (with_traded x (traded_of x.given.number since)) since
+remained e since x s = record {
   stays = λ f i. s.stays f (inr i);
   traded = refl;
   some_open = omega (arith, s.some_open, s.traded, traded_less x.given.number e since);
 }
 
 -- what was given is in the list as long as it stands
-list_holds : (g : List Event) (since : List Event) (x : Standing) → newly x.given ∈ standing g → Since x since → x ∈ standing (since ++ g)
+list_holds : (g : List Event) (since : List Event) (x : Standing) → newly x.given ∈ standing g → Remains x since → x ∈ standing (since ++ g)
 list_holds g [] x i s = subst (λ n. with_traded x n ∈ standing g) (sym s.traded) i
-list_holds g (e ∷ since) x i s = list_keeps (since ++ g) since x e s (list_holds g since (with_traded x (traded_of x.given.number since)) i (since_before e since x s))
+list_holds g (e ∷ since) x i s = list_keeps (since ++ g) since x e s (list_holds g since (with_traded x (traded_of x.given.number since)) i (remained e since x s))
 
-pub stands_in : (h : List Event) (x : Standing) → Stands h x → x ∈ standing h
-stands_in h x (entered _ since before _ p a f s) =
-    let g = Called p (Enter x.given) (Ok a) ∷ before in
-    subst (λ (l : List Event). x ∈ standing l) (sym f) (list_holds g since x (push_in (newly x.given) (standing before)) s)
-stands_in h x (changed _ since before _ y p c a f d n r s) =
-    let g = Called p (Change c) (Ok a) ∷ before in
-    let given : anew c.number c.limit c.quantity y ≡ newly x.given = cond-true (has_number c.number y) (newly (regiven y.given c.limit c.quantity)) y (eq-eqb y.given.number c.number n) ∙ ap newly (sym r) in
-    let i : newly x.given ∈ standing g = subst (λ (w : Standing). w ∈ standing g) given (map_in (anew c.number c.limit c.quantity) y (standing before) (stands_in before y d)) in
-    subst (λ (l : List Event). x ∈ standing l) (sym f) (list_holds g since x i s)
+mutual
+  gives_in : (g : List Event) (e : Entry) → Gives g e → newly e ∈ standing g
+  gives_in _ _ (by_entry p e a before) = push_in (newly e) (standing before)
+  gives_in _ _ (by_change p c a before y d n) =
+      let given = newly (regiven y.given c.limit c.quantity) in
+      let again = anew c.number c.limit c.quantity in
+      subst (λ (w : Standing). w ∈ map again (standing before)) (cond-true (has_number c.number y) given y (eq-eqb y.given.number c.number n))
+      (map_in again y (standing before) (stands_in before y d))
+
+  pub stands_in : (h : List Event) (x : Standing) → Stands h x → x ∈ standing h
+  stands_in _ _ (stands since g x d r) = list_holds g since x (gives_in g x.given d) r

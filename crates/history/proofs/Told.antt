@@ -11,6 +11,7 @@ use Rattle.book.specs.declared.rows.Order.{Order}
 use Rattle.book.specs.Orders.{is_ioc}
 use Rattle.capacity.specs.Meaning.{Capacity, Sound}
 use Rattle.routes.specs.Paths.{NoRepeat}
+use Rattle.session.specs.declared.entries.Entry.{Entry}
 use Rattle.session.specs.State.{State}
 use Rattle.events.specs.declared.calls.Call.TheVariants.{Enter, Change, Withdraw, Request, Notice, Close}
 use Rattle.events.specs.declared.events.Event.{Event}
@@ -18,7 +19,7 @@ use Rattle.events.specs.declared.events.Event.TheVariants.{Called, Stepped}
 use Rattle.events.specs.Events.{Happens}
 use Rattle.history.specs.History.{Reached}
 use Rattle.history.specs.Standing.{◌∈◌, Standing, still_open, newly, regiven, has_number, anew, with_trade, standing}
-use Rattle.history.specs.Stands.{traded_of, TakesOut, Since, Stands, entered, changed, Lists, StandingTold}
+use Rattle.history.specs.Stands.{traded_of, TakesOut, Remains, Gives, Stands, by_entry, by_change, stands, Lists, StandingTold}
 use Rattle.history.proofs.Agreeing.{Agree, anew_other}
 use Rattle.history.proofs.Invariant.{Inv}
 use Rattle.history.proofs.Listing.{with_traded, traded_more, stands_in}
@@ -35,21 +36,18 @@ traded_cons : (n : ℕ) (e : Event) (since : List Event) → traded_of n (e ∷ 
 traded_cons n (Called p k a) since = omega arith
 traded_cons n (Stepped p z a) since = omega arith
 
-module _ (e : Event) (h : List Event) (n : ℕ) where
-  since_on : (x : Standing) (since : List Event) → Since x since → (TakesOut e x.given → ⊥) → n ≡ traded_of x.given.number (e ∷ []) + x.traded → 0 < still_open (with_traded x n)
-      → Since (with_traded x n) (e ∷ since)
-  since_on x since s none more some = record {
+module _ (e : Event) (n : ℕ) where
+  remains_on : (x : Standing) (since : List Event) → Remains x since → (TakesOut e x.given → ⊥) → n ≡ traded_of x.given.number (e ∷ []) + x.traded → 0 < still_open (with_traded x n)
+      → Remains (with_traded x n) (e ∷ since)
+  remains_on x since s none more some = record {
     stays = λ f i. elim i [ inl g ↦ subst (λ (z : Event). TakesOut z x.given → ⊥) g none | inr j ↦ s.stays f j ];
     traded = omega (arith, more, s.traded, traded_cons x.given.number e since);
     some_open = some;
   }
 
   -- what is not taken out stands on
-  stands_on : (x : Standing) → Stands h x → (TakesOut e x.given → ⊥) → n ≡ traded_of x.given.number (e ∷ []) + x.traded → 0 < still_open (with_traded x n) → Stands (e ∷ h) (with_traded x n)
-  stands_on x (entered _ since before _ p a f s) none more some =
-      entered (e ∷ h) (e ∷ since) before (with_traded x n) p a (ap (λ (l : List Event). e ∷ l) f) (since_on x since s none more some)
-  stands_on x (changed _ since before _ y p c a f d g r s) none more some =
-      changed (e ∷ h) (e ∷ since) before (with_traded x n) y p c a (ap (λ (l : List Event). e ∷ l) f) d g r (since_on x since s none more some)
+  stands_on : (h : List Event) (x : Standing) → Stands h x → (TakesOut e x.given → ⊥) → n ≡ traded_of x.given.number (e ∷ []) + x.traded → 0 < still_open (with_traded x n) → Stands (e ∷ h) (with_traded x n)
+  stands_on _ _ (stands since g x d r) none more some = stands (e ∷ since) g (with_traded x n) d (remains_on x since r none more some)
 
 ioc_is : (k : Kind) → is_ioc k ≡ false → k ≡ Ioc → ⊥
 ioc_is k h e = both_ways (is_ioc k) h (ap is_ioc e)
@@ -57,14 +55,20 @@ ioc_is k h e = both_ways (is_ioc k) h (ap is_ioc e)
 module _ (h : List Event) (all : (y : Standing) → y ∈ standing h → Stands h y) (x : Standing) (some : 0 < still_open x) where
   -- an event that trades nothing
   on : (e : Event) → x ∈ standing h → (TakesOut e x.given → ⊥) → x.traded ≡ traded_of x.given.number (e ∷ []) + x.traded → Stands (e ∷ h) x
-  on e i none more = stands_on e h x.traded x (all x i) none more some
+  on e i none more = stands_on e x.traded h x (all x i) none more some
+
+  -- the newest event gave it
+  given_so : (e : Entry) (g : List Event) → newly e ≡ x → Gives g e → Stands g x
+  given_so e g same d =
+      let open_so : 0 < still_open (newly e) = subst (λ (w : Standing). 0 < still_open w) (sym same) some in
+      subst (Stands g) same (stands [] g (newly e) d (record { stays = λ f z o. absurd z; traded = refl; some_open = open_so }))
 
   told_step : (e : Event) → x ∈ standing (e ∷ h) → Stands (e ∷ h) x
   told_step (Called p k (Err f)) i = on _ i (λ z. z) (omega arith)
   told_step (Called p (Enter e) (Ok a)) i =
       elim (in_push x (newly e) (standing h) i) [
         | inl j ↦ on _ j (λ z. z) (omega arith)
-        | inr g ↦ subst (Stands (Called p (Enter e) (Ok a) ∷ h)) g (entered _ [] h (newly e) p a refl (record { stays = λ f z o. absurd z; traded = refl; some_open = subst (λ (w : Standing). 0 < still_open w) (sym g) some }))
+        | inr g ↦ given_so e _ g (by_entry p e a h)
       ]
   told_step (Called p (Change c) (Ok a)) i =
       let again = anew c.number c.limit c.quantity in
@@ -73,9 +77,7 @@ module _ (h : List Event) (all : (y : Standing) → y ∈ standing h → Stands 
       elim (cases_eq y.given.number c.number) [
         | inl g ↦
             let given : newly (regiven y.given c.limit c.quantity) ≡ x = sym (cond-true (has_number c.number y) (newly (regiven y.given c.limit c.quantity)) y (eq-eqb y.given.number c.number g)) ∙ v.2 in
-            subst (Stands (Called p (Change c) (Ok a) ∷ h)) given
-            (changed _ [] h (newly (regiven y.given c.limit c.quantity)) y p c a refl (all y v.1) g refl
-            (record { stays = λ f z o. absurd z; traded = refl; some_open = subst (λ (w : Standing). 0 < still_open w) (sym given) some }))
+            given_so _ _ given (by_change p c a h y (all y v.1) g)
         | inr g ↦
             let same : y ≡ x = sym (anew_other c.number c.limit c.quantity y g) ∙ v.2 in
             on _ (subst (λ (w : Standing). w ∈ standing h) same v.1) (subst (λ (w : Standing). w.given.number ≡ c.number → ⊥) same g) (omega arith)
@@ -98,7 +100,7 @@ module _ (h : List Event) (all : (y : Standing) → y ∈ standing h → Stands 
       let n = cond b u.quantity 0 + y.traded in
       let same : with_traded y n ≡ x = sym (traded_more b u.quantity y.traded (with_traded y n) refl) ∙ v.2 in
       subst (Stands (Stepped p z (Ok (Some t)) ∷ h)) same
-      (stands_on _ h n y (all y v.1) (λ z. z) (omega arith) (subst (λ (w : Standing). 0 < still_open w) (sym same) some))
+      (stands_on _ n h y (all y v.1) (λ z. z) (omega arith) (subst (λ (w : Standing). 0 < still_open w) (sym same) some))
   told_step (Stepped p z (Ok None)) i =
       let k = in_kept (λ w. not (is_ioc w.given.terms.kind)) x (standing h) i in
       on _ k.0 (ioc_is x.given.terms.kind (not-true (is_ioc x.given.terms.kind) k.1)) (omega arith)

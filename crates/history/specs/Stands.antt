@@ -26,26 +26,24 @@ TakesOut (Called p (Change c) (Ok a)) x = x.number ≡ c.number
 TakesOut (Stepped p z (Ok None)) x = x.terms.kind ≡ Ioc
 TakesOut other x = ⊥
 
--- all that happened since an order was given so: nothing took it out, this much was traded with its number, and it is not used up
-pub record Since (x : Standing) (since : List Event) : Type 0 where
+-- An order that was given as x is remains through the events since: nothing took it out, this much was traded with its number, and
+-- it is not used up.
+pub record Remains (x : Standing) (since : List Event) : Type 0 where
   pub stays : (e : Event) → e ∈ since → TakesOut e x.given → ⊥
   pub traded : x.traded ≡ traded_of x.given.number since
   pub some_open : 0 < still_open x
 
--- An order stands after the events h, newest first, as its accepted entry gave it; or it stood as y before an accepted change, which
--- gave it another limit and quantity and left the rest.
-pub data Stands : List Event → Standing → Type 0 where
-  entered : (h since before : List Event) (x : Standing) (p : ℕ) (a : Option ℕ)
-      → h ≡ since ++ Called p (Enter x.given) (Ok a) ∷ before
-      → Since x since
-      → Stands h x
-  changed : (h since before : List Event) (x y : Standing) (p : ℕ) (c : AChange) (a : Option ℕ)
-      → h ≡ since ++ Called p (Change c) (Ok a) ∷ before
-      → Stands before y
-      → y.given.number ≡ c.number
-      → x.given ≡ regiven y.given c.limit c.quantity
-      → Since x since
-      → Stands h x
+mutual
+  -- The newest of these events gives an order so: its accepted entry, or an accepted change of it as it stood before, which leaves all
+  -- but limit and quantity.
+  pub data Gives : List Event → Entry → Type 0 where
+    by_entry : (p : ℕ) (e : Entry) (a : Option ℕ) (before : List Event) → Gives (Called p (Enter e) (Ok a) ∷ before) e
+    by_change : (p : ℕ) (c : AChange) (a : Option ℕ) (before : List Event) (y : Standing) → Stands before y → y.given.number ≡ c.number
+        → Gives (Called p (Change c) (Ok a) ∷ before) (regiven y.given c.limit c.quantity)
+
+  -- an order stands after these events, newest first: it was given so, and remains through all events since
+  pub data Stands : List Event → Standing → Type 0 where
+    stands : (since until : List Event) (x : Standing) → Gives until x.given → Remains x since → Stands (since ++ until) x
 
 -- the list has each order that stands, has no other, and no number twice; so a sum over it is a sum over what stands
 pub record Lists (h : List Event) (l : List Standing) : Type 0 where
