@@ -7,6 +7,7 @@ pub mod Same
 pub mod Agreeing
 pub mod Bound
 pub mod Listing
+pub mod OnceEach
 pub mod Dealing
 pub mod Accepted
 pub mod Means

@@ -1,17 +1,15 @@
 -- What stands by the relation is in the list, and one event more leaves it standing.
-use Rattle.std.proofs.Common.{◌≡◌, ℕ, ◌+◌, ◌-◌, ◌<◌, ◌≤◌, Bool, true, false, cond, not, ◌||◌, eqb, ltb, List, [], ◌∷◌, ◌++◌, map, filter, Some, None, Ok, Err, Option, sym, refl, ap, ◌∙◌, subst, inl, inr, arith}
-use Rattle.std.proofs.lemmas.Bool.{cond-true, cond-false, lt-ltb, ne_eqb, eq-eqb, not_from_false}
+use Rattle.std.proofs.Common.{◌≡◌, ℕ, ◌+◌, ◌≤◌, Bool, true, false, cond, not, eqb, ltb, List, [], ◌∷◌, ◌++◌, map, Some, None, Ok, Err, sym, refl, ap, ◌∙◌, subst, inl, inr, arith}
+use Rattle.std.proofs.lemmas.Bool.{cond-true, lt-ltb, ne_eqb, eq-eqb, not_from_false}
 use Rattle.book.specs.declared.rows.Kind.{Kind}
 use Rattle.book.specs.declared.rows.Kind.TheVariants.{Non, Ioc, Ice}
 use Rattle.book.specs.Orders.{is_ioc}
-use Rattle.trades.specs.declared.trade.Trade.{Trade}
-use Rattle.session.specs.declared.entries.Change.{Change as AChange}
 use Rattle.session.specs.declared.entries.Entry.{Entry}
 use Rattle.events.specs.declared.calls.Call.TheVariants.{Enter, Change, Withdraw, Request, Notice, Close}
 use Rattle.events.specs.declared.events.Event.{Event}
 use Rattle.events.specs.declared.events.Event.TheVariants.{Called, Stepped}
 use Rattle.history.specs.Standing.{◌∈◌, Standing, still_open, newly, regiven, has_number, anew, with_trade, standing}
-use Rattle.history.specs.Stands.{traded_of, TakesOut, Remains, Gives, Stands, by_entry, by_change, stands}
+use Rattle.history.specs.Stands.{traded_of, Remains, Gives, Stands, by_entry, by_change, stands}
 use Rattle.history.proofs.Agreeing.{anew_other}
 use Rattle.history.proofs.Members.{in_left, push_in, kept_in, map_in}
 use Rattle.history.proofs.Rows.{traded_in}

@@ -1,9 +1,6 @@
 -- The list has nothing but what stands by the relation, and no number twice.
-use Rattle.std.proofs.Common.{◌≡◌, ℕ, ◌+◌, ◌<◌, Bool, true, false, cond, not, eqb, ltb, List, [], ◌∷◌, ◌++◌, map, filter, Some, None, Ok, Err, sym, refl, ap, ◌∙◌, subst, inl, inr, arith}
-use Rattle.std.specs.List.{AllByRecursion}
-use Rattle.std.proofs.ByRecursion.{All-map, All-push}
-use Rattle.std.proofs.lemmas.Bool.{cases_eq, cond-true, cond-false, eq-eqb, eqb-false, not-true, both_ways}
-use Rattle.std.proofs.lemmas.List.{map-append}
+use Rattle.std.proofs.Common.{◌≡◌, ℕ, ◌+◌, ◌<◌, Bool, true, false, cond, not, eqb, ltb, List, [], ◌∷◌, map, Some, None, Ok, Err, sym, refl, ap, ◌∙◌, subst, inl, inr, arith}
+use Rattle.std.proofs.lemmas.Bool.{cases_eq, cond-true, eq-eqb, eqb-false, not-true, both_ways}
 use Rattle.book.proofs.Numbers.{lacks}
 use Rattle.book.specs.declared.rows.Kind.{Kind}
 use Rattle.book.specs.declared.rows.Kind.TheVariants.{Ioc}
@@ -25,9 +22,10 @@ use Rattle.history.proofs.Invariant.{Inv}
 use Rattle.history.proofs.Listing.{with_traded, traded_more, stands_in}
 use Rattle.history.proofs.Means.{enters}
 use Rattle.history.proofs.Members.{in_push, in_kept, in_map}
-use Rattle.history.proofs.Numbered.{all_in, in_all}
+use Rattle.history.proofs.Numbered.{all_in}
 use Rattle.history.proofs.Rows.{traded_in}
 use Rattle.history.proofs.Same.{same_open, more}
+use Rattle.history.proofs.OnceEach.{numbers, once_kept, once_same, once_push, one_sum}
 use Rattle.history.proofs.Together.{holds}
 
 -- ---- one event more
@@ -111,42 +109,6 @@ open_in book l a w i = let x = a.stand w i in omega (arith, same_open x.0 w x.2,
 
 -- ---- no number twice
 
-abbrev numbers : List Standing → List ℕ
-numbers = map (λ x. x.given.number)
-
-kept_few : (P : ℕ → Type 0) (p : Standing → Bool) (l : List Standing) → AllByRecursion P (numbers l) → AllByRecursion P (numbers (filter p l))
-kept_few P p [] h = tt
-kept_few P p (x ∷ l) h = by_case (p x) (kept_few P p l h.1)
-  where
-    by_case : (b : Bool) → AllByRecursion P (numbers (filter p l)) → AllByRecursion P (numbers (cond b (x ∷ filter p l) (filter p l)))
-    by_case true g = (h.0, g)
-    by_case false g = g
-
-once_kept : (p : Standing → Bool) (l : List Standing) → NoRepeat (numbers l) → NoRepeat (numbers (filter p l))
-once_kept p [] h = tt
-once_kept p (x ∷ l) h = by_case (p x) (once_kept p l h.1)
-  where
-    by_case : (b : Bool) → NoRepeat (numbers (filter p l)) → NoRepeat (numbers (cond b (x ∷ filter p l) (filter p l)))
-    by_case true g = (kept_few _ p l h.0, g)
-    by_case false g = g
-
--- a change that leaves numbers
-once_same : (f : Standing → Standing) → ((x : Standing) → (f x).given.number ≡ x.given.number) → (l : List Standing) → NoRepeat (numbers l) → NoRepeat (numbers (map f l))
-once_same f same l h = subst NoRepeat (sym (all_same l)) h
-  where
-    all_same : (l : List Standing) → numbers (map f l) ≡ numbers l
-    all_same [] = refl
-    all_same (x ∷ l) = λ i. same x i ∷ all_same l i
-
-no_repeat_push : (xs : List ℕ) (n : ℕ) → NoRepeat xs → AllByRecursion (λ k. k ≡ n → ⊥) xs → NoRepeat (xs ++ n ∷ [])
-no_repeat_push [] n d h = (tt, tt)
-no_repeat_push (x ∷ xs) n d h = (All-push (λ k. k ≡ x → ⊥) xs n d.0 (λ e. h.0 (sym e)), no_repeat_push xs n d.1 h.1)
-
-once_push : (l : List Standing) (x : Standing) → NoRepeat (numbers l) → ((w : Standing) → w ∈ l → w.given.number ≡ x.given.number → ⊥) → NoRepeat (numbers (l ++ x ∷ []))
-once_push l x d f =
-    subst NoRepeat (sym (map-append (λ (w : Standing). w.given.number) l (x ∷ [])))
-    (no_repeat_push (numbers l) x.given.number d (All-map (λ k. k ≡ x.given.number → ⊥) (λ (w : Standing). w.given.number) l (in_all _ l f)))
-
 anew_number : (b : Bool) (x y : Standing) → y.given.number ≡ x.given.number → (cond b y x).given.number ≡ x.given.number
 anew_number true x y e = e
 anew_number false x y e = refl
@@ -181,4 +143,6 @@ module _ (m : Capacity) (n : ℕ) (sound : Sound m) where
   told_once (e ∷ h) t r = once_step m h r.0 (holds m n sound h r.0 r.1) (told_once h r.0 r.1) e t r.2
 
 pub standing_told : StandingTold
-standing_told m n h s sound r = record { each = stands_in h; only = told_only m n sound h s r; once = told_once m n sound h s r }
+standing_told m n h s sound r =
+    let told : Lists h (standing h) = record { each = stands_in h; only = told_only m n sound h s r; once = told_once m n sound h s r } in
+    (told, λ k l c d. one_sum c d k (standing h) l.once told.once (λ x i. told.each x (l.only x i)) (λ x i. l.each x (told.only x i)))

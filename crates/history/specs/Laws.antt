@@ -61,7 +61,8 @@ Covered (Called p k a ∷ h) s = CoveredCall s.capacity k a
 Covered (Stepped p z a ∷ h) s = CoveredStep s.capacity a
 
 -- A round has no more accepted steps than the smaller side had open as it began, plus one, and one that has had so many is done. What
--- was open is a sum, so it is taken over the list that has what stands, each order once (`StandingTold`).
+-- is open on a side is a sum, so it is taken over a list: the one carried along the events, which has just what stands, each order
+-- once; every other list of what stands has the same sum (`StandingTold`).
 abbrev pub Bounded : List Event → State → Type 0
 Bounded h s = (steps h ≤ bound h + 1) × (steps h ≡ bound h + 1 → s.round ≡ None)
 
