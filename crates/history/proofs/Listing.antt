@@ -4,12 +4,11 @@ use Rattle.std.proofs.lemmas.Bool.{cond-true, lt-ltb, ne_eqb, eq-eqb, not_from_f
 use Rattle.book.specs.declared.rows.Kind.{Kind}
 use Rattle.book.specs.declared.rows.Kind.TheVariants.{Non, Ioc, Ice}
 use Rattle.book.specs.Orders.{is_ioc}
-use Rattle.session.specs.declared.entries.Entry.{Entry}
 use Rattle.events.specs.declared.calls.Call.TheVariants.{Enter, Change, Withdraw, Request, Notice, Close}
 use Rattle.events.specs.declared.events.Event.{Event}
 use Rattle.events.specs.declared.events.Event.TheVariants.{Called, Stepped}
 use Rattle.history.specs.Standing.{◌∈◌, Standing, still_open, newly, regiven, has_number, anew, with_trade, standing}
-use Rattle.history.specs.Stands.{traded_of, Remains, Gives, Stands, by_entry, by_change, stands}
+use Rattle.history.specs.Stands.{traded_of, Remains, as_given, Gives, Stands, by_entry, by_change, stands}
 use Rattle.history.proofs.Agreeing.{anew_other}
 use Rattle.history.proofs.Members.{in_left, push_in, kept_in, map_in}
 use Rattle.history.proofs.Rows.{traded_in}
@@ -75,12 +74,12 @@ remained e since x s = record {
 }
 
 -- what was given is in the list as long as it stands
-list_holds : (g : List Event) (since : List Event) (x : Standing) → newly x.given ∈ standing g → Remains x since → x ∈ standing (since ++ g)
+list_holds : (g : List Event) (since : List Event) (x : Standing) → as_given x ∈ standing g → Remains x since → x ∈ standing (since ++ g)
 list_holds g [] x i s = subst (λ n. with_traded x n ∈ standing g) (sym s.traded) i
 list_holds g (e ∷ since) x i s = list_keeps (since ++ g) since x e s (list_holds g since (with_traded x (traded_of x.given.number since)) i (remained e since x s))
 
 mutual
-  gives_in : (g : List Event) (e : Entry) → Gives g e → newly e ∈ standing g
+  gives_in : (g : List Event) (w : Standing) → Gives g w → w ∈ standing g
   gives_in _ _ (by_entry p e a before) = push_in (newly e) (standing before)
   gives_in _ _ (by_change p c a before y d n) =
       let given = newly (regiven y.given c.limit c.quantity) in
@@ -89,4 +88,4 @@ mutual
       (map_in again y (standing before) (stands_in before y d))
 
   pub stands_in : (h : List Event) (x : Standing) → Stands h x → x ∈ standing h
-  stands_in _ _ (stands since g x d r) = list_holds g since x (gives_in g x.given d) r
+  stands_in _ _ (stands since g x d r) = list_holds g since x (gives_in g (as_given x) d) r

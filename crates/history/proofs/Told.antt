@@ -56,8 +56,8 @@ module _ (h : List Event) (all : (y : Standing) → y ∈ standing h → Stands 
   on e i none more = stands_on e x.traded h x (all x i) none more some
 
   -- the newest event gave it
-  given_so : (e : Entry) (g : List Event) → newly e ≡ x → Gives g e → Stands g x
-  given_so e g same d =
+  given_so : (g : List Event) (e : Entry) → newly e ≡ x → Gives g (newly e) → Stands g x
+  given_so g e same d =
       let open_so : 0 < still_open (newly e) = subst (λ (w : Standing). 0 < still_open w) (sym same) some in
       subst (Stands g) same (stands [] g (newly e) d (record { stays = λ f z o. absurd z; traded = refl; some_open = open_so }))
 
@@ -66,7 +66,7 @@ module _ (h : List Event) (all : (y : Standing) → y ∈ standing h → Stands 
   told_step (Called p (Enter e) (Ok a)) i =
       elim (in_push x (newly e) (standing h) i) [
         | inl j ↦ on _ j (λ z. z) (omega arith)
-        | inr g ↦ given_so e _ g (by_entry p e a h)
+        | inr g ↦ given_so _ e g (by_entry p e a h)
       ]
   told_step (Called p (Change c) (Ok a)) i =
       let again = anew c.number c.limit c.quantity in

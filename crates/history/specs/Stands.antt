@@ -11,7 +11,7 @@ use Rattle.events.specs.declared.calls.Call.TheVariants.{Enter, Change, Withdraw
 use Rattle.events.specs.declared.events.Event.{Event}
 use Rattle.events.specs.declared.events.Event.TheVariants.{Called, Stepped}
 use Rattle.history.specs.History.{Reached}
-use Rattle.history.specs.Standing.{◌∈◌, Standing, still_open, regiven, over_trades, standing, open_on}
+use Rattle.history.specs.Standing.{◌∈◌, Standing, still_open, newly, regiven, over_trades, standing, open_on}
 
 -- what steps answered as traded with the number n, as the buy's or as the sell's
 abbrev pub traded_of : ℕ → List Event → ℕ
@@ -34,22 +34,26 @@ pub record Remains (x : Standing) (since : List Event) : Type 0 where
   pub traded : x.traded ≡ traded_of x.given.number since
   pub some_open : 0 < still_open x
 
+-- as it was given, with nothing traded yet
+abbrev pub as_given : Standing → Standing
+as_given x = record { given = x.given; traded = 0 }
+
 mutual
   -- The newest of these events gives an order so: an accepted entry, or an accepted change of an order that stood before it, which
   -- keeps all but limit and quantity.
-  pub data Gives : List Event → Entry → Type 0 where
+  pub data Gives : List Event → Standing → Type 0 where
     by_entry : (p : ℕ) (e : Entry) (a : Option ℕ) (before : List Event)
-        → Gives (Called p (Enter e) (Ok a) ∷ before) e
+        → Gives (Called p (Enter e) (Ok a) ∷ before) (newly e)
     by_change : (p : ℕ) (c : AChange) (a : Option ℕ) (before : List Event) (y : Standing)
         → Stands before y
         → y.given.number ≡ c.number
-        → Gives (Called p (Change c) (Ok a) ∷ before) (regiven y.given c.limit c.quantity)
+        → Gives (Called p (Change c) (Ok a) ∷ before) (newly (regiven y.given c.limit c.quantity))
 
   -- After these events, newest first, an order stands: it was given, and remains through all that happened since. What is open of it
   -- is `still_open`, its limit `limit_now`.
   pub data Stands : List Event → Standing → Type 0 where
     stands : (since until : List Event) (x : Standing)
-        → Gives until x.given
+        → Gives until (as_given x)
         → Remains x since
         → Stands (since ++ until) x
 
