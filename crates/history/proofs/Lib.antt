@@ -1,4 +1,4 @@
--- Lemmas, and the laws: `laws_hold` and `lawfully` in Together, `one_answer` in Once, `one_turn` in OneTurn.
+-- Lemmas, and the laws: `laws_hold` and `lawfully` in Together, `standing_told` in Told, `one_answer` in Once, `one_turn` in OneTurn.
 pub mod Members
 pub mod Numbered
 pub mod Rows
@@ -20,8 +20,8 @@ pub mod AfterEntry
 pub mod AfterCalls
 pub mod AfterSteps
 pub mod Together
-pub mod Told
 pub mod Faults
 pub mod Once
 pub mod OneTurn
 pub mod Turning
+pub mod Told

@@ -50,7 +50,7 @@ pub fn play<R: Register + Drop>(
     ensures history { IfOk result (λ events. Plays (R.Register.meaning register) number calls.now events.items) }
     ensures played { IfOk result (λ events. calls_of events.items ≡ calls.now) }
     ensures laws { LawsHold }
-    ensures told { StandingTold }
+    ensures standing { StandingTold }
     ensures once { OneAnswer }
 {
     let (mut session, mut pass) = Session::begin(number, register);

@@ -26,6 +26,6 @@ returns g c =
       history = IfOk-weaker _ _ _ (λ v h. plays m n ks t (vec_items v) (g.R.Register.sound c.args.register) h) all;
       played = IfOk-weaker _ _ _ (λ v h. played_calls m n ks t (vec_items v) h) all;
       laws = laws_hold;
-      told = standing_told;
+      standing = standing_told;
       once = one_answer;
     }
