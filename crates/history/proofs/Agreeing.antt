@@ -60,7 +60,7 @@ agree_enter book l e a f = record {
   ];
 }
 
-anew_other : (n : ℕ) (l : ℤ) (q : ℕ) (w : Standing) → (w.given.number ≡ n → ⊥) → anew n l q w ≡ w
+pub anew_other : (n : ℕ) (l : ℤ) (q : ℕ) (w : Standing) → (w.given.number ≡ n → ⊥) → anew n l q w ≡ w
 anew_other n l q w h = cond-false (has_number n w) (newly (regiven w.given l q)) w (ne_eqb w.given.number n h)
 
 module _ (n m : ℕ) (lim : ℤ) (q : ℕ) (book : List Order) (k : ℕ) (l : List Standing) where

@@ -16,7 +16,7 @@ use Rattle.history.proofs.Same.{more}
 abbrev counts : ℕ → Side → Standing → Bool
 counts c d x = eqb x.given.contract c && same_side x.given.terms.side d
 
-abbrev share : ℕ → Side → Standing → ℕ
+abbrev pub share : ℕ → Side → Standing → ℕ
 share c d x = cond (counts c d x) (still_open x) 0
 
 -- fewer stand

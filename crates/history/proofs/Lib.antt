@@ -1,4 +1,4 @@
--- Lemmas, and the laws: `laws_hold` and `lawfully` in Together, `one_answer` in Once, `one_turn` in OneTurn.
+-- Lemmas, and the laws: `laws_hold` and `lawfully` in Together, `standing_told` in Told, `one_answer` in Once, `one_turn` in OneTurn.
 pub mod Members
 pub mod Numbered
 pub mod Rows
@@ -6,6 +6,8 @@ pub mod Slices
 pub mod Same
 pub mod Agreeing
 pub mod Bound
+pub mod Listing
+pub mod OnceEach
 pub mod Dealing
 pub mod Accepted
 pub mod Means
@@ -22,3 +24,4 @@ pub mod Faults
 pub mod Once
 pub mod OneTurn
 pub mod Turning
+pub mod Told

@@ -15,20 +15,21 @@ use Rattle.history.specs.Standing.{limit_now, standing, steps, bound, smaller}
 use Rattle.history.proofs.AfterCalls.{after_call}
 use Rattle.history.proofs.AfterSteps.{after_step}
 use Rattle.history.proofs.Invariant.{Inv, Within, at_first, clear_quiet}
+use Rattle.history.proofs.Listing.{stands_in}
 
 after_event : (m : Capacity) (h : List Event) (s : State) → Inv m h s → (e : Event) (t : State) → Happens s e t → Inv m (e ∷ h) t
 after_event m h s inv (Called p k a) t x = after_call m h s inv p k a t x
 after_event m h s inv (Stepped p z a) t x = after_step m h s inv p z a t x
 
-holds : (m : Capacity) (n : ℕ) → Sound m → (h : List Event) (s : State) → Reached m n h s → Inv m h s
+pub holds : (m : Capacity) (n : ℕ) → Sound m → (h : List Event) (s : State) → Reached m n h s → Inv m h s
 holds m n sound [] s r = subst (Inv m []) (sym r) (at_first m n sound)
 holds m n sound (e ∷ h) t r = after_event m h r.0 (holds m n sound h r.0 r.1) e t r.2
 
 -- a pair of standing orders that meets is one of the book
 none_left : (m : Capacity) (h : List Event) (s : State) → Inv m h s → NoneLeft h s
 none_left m h s inv quiet b o x =
-    let p = inv.agree.stand b x.buy_stands in
-    let q = inv.agree.stand o x.sell_stands in
+    let p = inv.agree.stand b (stands_in h b x.buy_stands) in
+    let q = inv.agree.stand o (stands_in h o x.sell_stands) in
     let c = s.capacity in
     let to : Reach (OpenIn c b.given.contract) o.given.area p.0.area = subst (λ a. Reach (OpenIn c b.given.contract) o.given.area a) (sym p.2.area) (x.leads.0, x.leads.1.0) in
     let from : Reach (OpenIn c b.given.contract) q.0.area p.0.area = subst (λ a. Reach (OpenIn c b.given.contract) a p.0.area) (sym q.2.area) to in

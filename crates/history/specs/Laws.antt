@@ -14,12 +14,13 @@ use Rattle.events.specs.declared.events.Event.{Event}
 use Rattle.events.specs.declared.events.Event.TheVariants.{Called, Stepped}
 use Rattle.events.specs.Events.{Answer, StepAnswer, Happens, Answered, StepAnswered, logged}
 use Rattle.history.specs.History.{Reached}
-use Rattle.history.specs.Standing.{◌∈◌, Standing, limit_now, standing, sold, bought, granted_out, granted_in, steps, bound}
+use Rattle.history.specs.Standing.{Standing, limit_now, sold, bought, granted_out, granted_in, steps, bound}
+use Rattle.history.specs.Stands.{Stands}
 
 -- a buy and a sell of one contract stand whose limits meet, with a path of open directions from the sell's area to the buy's
-pub record Meeting (m : Capacity) (l : List Standing) (b o : Standing) : Type 0 where
-  pub buy_stands : b ∈ l
-  pub sell_stands : o ∈ l
+pub record Meeting (m : Capacity) (h : List Event) (b o : Standing) : Type 0 where
+  pub buy_stands : Stands h b
+  pub sell_stands : Stands h o
   pub buys : b.given.terms.side ≡ Buy
   pub sells : o.given.terms.side ≡ Sell
   pub one_contract : b.given.contract ≡ o.given.contract
@@ -28,7 +29,7 @@ pub record Meeting (m : Capacity) (l : List Standing) (b o : Standing) : Type 0 
 
 -- while quiet, no such pair stands
 abbrev pub NoneLeft : List Event → State → Type 0
-NoneLeft h s = s.round ≡ None → (b o : Standing) → Meeting s.capacity (standing h) b o → ⊥
+NoneLeft h s = s.round ≡ None → (b o : Standing) → Meeting s.capacity h b o → ⊥
 
 -- the net use that an area carries out, less that at the start, is what it sold less what it bought, plus what was granted out of it less what was granted into it
 abbrev pub Balanced : Capacity → List Event → State → Type 0
@@ -59,7 +60,9 @@ Covered [] s = Unit {0}
 Covered (Called p k a ∷ h) s = CoveredCall s.capacity k a
 Covered (Stepped p z a ∷ h) s = CoveredStep s.capacity a
 
--- a round has no more accepted steps than the smaller side had open as it began, plus one, and one that has had so many is done
+-- A round has no more accepted steps than the smaller side had open as it began, plus one, and one that has had so many is done. What
+-- is open on a side is a sum, so it is taken over a list: the one carried along the events, which has just what stands, each order
+-- once; every other list of what stands has the same sum (`StandingTold`).
 abbrev pub Bounded : List Event → State → Type 0
 Bounded h s = (steps h ≤ bound h + 1) × (steps h ≡ bound h + 1 → s.round ≡ None)
 

@@ -73,7 +73,7 @@ after_step (Err f) l = l
 after_step (Ok (Some t)) l = filter (λ x. nat_lt 0 (still_open x)) (map (with_trade t.trade) l)
 after_step (Ok None) l = filter (λ x. not (is_ioc x.given.terms.kind)) l
 
--- the orders open after these events
+-- the orders open after these events, carried along them; `Stands` says of each by itself when it is one of them
 abbrev pub standing : List Event → List Standing
 standing [] = []
 standing (Called p k a ∷ h) = cond (is_ok a) (after_call k (standing h)) (standing h)

@@ -1,6 +1,7 @@
 // Calls played one after another on a session begun afresh, each round run to its end.
 ghost use Rattle.std.specs.Prelude.{◌≡◌, IfOk};
 ghost use Rattle.history.specs.Laws.{LawsHold, OneAnswer};
+ghost use Rattle.history.specs.Stands.{StandingTold};
 ghost use Rattle.session.specs.State.{state};
 ghost use Rattle.player.specs.Logs.{TurnNoted};
 ghost use Rattle.player.specs.Playing.{Plays, calls_of};
@@ -49,6 +50,7 @@ pub fn play<R: Register + Drop>(
     ensures history { IfOk result (λ events. Plays (R.Register.meaning register) number calls.now events.items) }
     ensures played { IfOk result (λ events. calls_of events.items ≡ calls.now) }
     ensures laws { LawsHold }
+    ensures standing { StandingTold }
     ensures once { OneAnswer }
 {
     let (mut session, mut pass) = Session::begin(number, register);

@@ -4,6 +4,7 @@ use Rattle.std.proofs.lemmas.Result.{IfOk-weaker}
 use Rattle.session.specs.State.{state}
 use Rattle.history.proofs.Once.{one_answer}
 use Rattle.history.proofs.Together.{laws_hold}
+use Rattle.history.proofs.Told.{standing_told}
 use Rattle.player.proofs.Noting.{one_more, all_played}
 use Rattle.player.proofs.Turns.{plays, played_calls}
 use Rattle.player.proofs.playing.play.Goals as goal
@@ -25,5 +26,6 @@ returns g c =
       history = IfOk-weaker _ _ _ (λ v h. plays m n ks t (vec_items v) (g.R.Register.sound c.args.register) h) all;
       played = IfOk-weaker _ _ _ (λ v h. played_calls m n ks t (vec_items v) h) all;
       laws = laws_hold;
+      standing = standing_told;
       once = one_answer;
     }
