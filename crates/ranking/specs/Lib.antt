@@ -6,3 +6,4 @@ pub mod Ranking
 pub mod Refusals
 pub mod Held
 pub mod Marks
+pub mod Tickets

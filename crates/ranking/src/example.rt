@@ -14,9 +14,9 @@ pub struct Mark {
 impl Ranked for Mark {
     ghost precedes = { mark_before };
 
-    ghost ordered = { marks_ordered };
-
     fn before(&self, other: &Mark) -> bool {
         self < other
     }
+
+    ghost ordered = { marks_ordered };
 }

@@ -1,4 +1,4 @@
-// Why a ranked list refuses a line.
+// Why a ranked list refuses an element, which it then hands back.
 ghost use Rattle.std.specs.Prelude.{◌≡◌};
 ghost use Rattle.ranking.specs.Refusals.{fault_number};
 
@@ -15,4 +15,11 @@ impl RankingFault {
     {
         *self as u32
     }
+}
+
+// An element that was not taken, since it may be of a type that cannot be copied or let go.
+#[derive(Drop)]
+pub struct Refused<T> {
+    pub fault: RankingFault,
+    pub element: T,
 }

@@ -8,3 +8,4 @@ pub mod list;
 pub mod order;
 #[cfg(test)]
 mod tests;
+pub mod tickets;
