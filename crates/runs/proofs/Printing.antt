@@ -1,5 +1,5 @@
 -- What is printed line by line, put together.
-use Rattle.std.proofs.Common.{◌≡◌, ℕ, ◌+◌, ◌≤◌, Bool, true, false, List, [], ◌∷◌, ◌++◌, length, Some, Decides, sym, refl, ap, ◌∙◌, subst, inl, inr, append_assoc, append-nil, arith}
+use Rattle.std.proofs.Common.{◌≡◌, ℕ, ◌+◌, ◌≤◌, Bool, true, false, List, [], ◌∷◌, ◌++◌, length, Some, None, Option, Decides, sym, refl, ap, ◌∙◌, subst, inl, inr, append_assoc, append-nil, arith}
 use Rattle.std.proofs.lemmas.Bool.{true≢false}
 use Rattle.capacity.specs.Meaning.{Capacity}
 use Rattle.capacity.specs.Network.{Network, no_network}
@@ -8,7 +8,7 @@ use Rattle.reading.specs.declared.reader.Reader.{Reader}
 use Rattle.reading.specs.Text.{words}
 use Rattle.reading.specs.Reading.{unread, ahead, below, words_of, Begun, NextLine}
 use Rattle.reading.specs.Output.{mark}
-use Rattle.reading.specs.Fields.{OtherLetter, LineWith, InLine}
+use Rattle.reading.specs.Fields.{first_letter, after_letter, letter_below, LetterTaken, InLine}
 use Rattle.runs.specs.Lines as lines
 use Rattle.runs.specs.Lines.{Line, printed}
 use Rattle.runs.specs.Maps.{MapLine, map_printed, register_on}
@@ -34,24 +34,47 @@ header_read s t line false first e d = rw first.0.1.0 (λ m. true≢false (sym (
 
 -- ---- the map
 
+no_letter : (ls : List (List ℕ)) → ls ≡ [] → letter_below ls ≡ Some 77 → ⊥
+no_letter ls e m = let none : ◌≡◌ {A = Option ℕ} None (Some 77) = sym (ap letter_below e) ∙ m in cc
+
+-- The line after the one at hand at s is an M line, and its letter is read at t.
+pub record MLine (s t : Reader) : Type 0 where
+  pub line : List ℕ
+  pub next : below s ≡ line ∷ below t
+  pub letter : first_letter (words line) ≡ Some 77
+  pub rest : ahead t ≡ after_letter (words line)
+  pub number : t.lines ≡ s.lines + 1
+  pub one : t.words ≡ 1
+
+pub m_line : (s h t : Reader) (there : Bool) (l : Option ℕ) → letter_below (below s) ≡ Some 77 → NextLine s there h → LetterTaken h l t → MLine s t
+m_line s h t false l m (none, kept) k = absurd (no_letter (below s) none m)
+m_line s h t true l m ((line, (next, at_hand)), number, unread) k =
+    let at : ahead h ≡ words line = ap words_of at_hand in
+    let letter : first_letter (words line) ≡ Some 77 = ap letter_below (sym next) ∙ m in
+    record {
+      line = line;
+      next = next ∙ ap (λ x. line ∷ x) (sym k.stays.0);
+      letter = letter;
+      rest = k.rest ∙ ap after_letter at;
+      number = k.stays.1 ∙ number;
+      one = k.counted 77 (k.is ∙ ap first_letter at ∙ letter) ∙ ap (λ n. n + 1) unread;
+    }
+
 -- one more M line, whose letter is read at t and whose words are read at u
-pub map_more : (P : Allowing) (m m' : Network) (s t u : Reader) (a b c : List ℕ) → Printed P (MapsBelow m s) a b → LineWith 77 s true t → MapLineRun m t b m' c → InLine t u → Printed P (MapsBelow m' u) a c
-map_more P m m' s t u a b c so line (r, (h, p)) (ls, ns) =
-    let l = line.0.0 in
-    let e : below s ≡ l ∷ below u = line.0.1.0 ∙ ap (λ x. l ∷ x) (sym ls) in
-    let n : t.lines ≡ s.lines + 1 = line.1 in
-    let first : MapLine 1 m (ahead t) r m' = subst (λ (i : ℕ). MapLine i m (ahead t) r m') line.2 h in
+pub map_more : (P : Allowing) (m m' : Network) (s t u : Reader) (a b c : List ℕ) → Printed P (MapsBelow m s) a b → MLine s t → MapLineRun m t b m' c → InLine t u → Printed P (MapsBelow m' u) a c
+map_more P m m' s t u a b c so l (r, (h, p)) (ls, ns) =
+    let e : below s ≡ l.line ∷ below u = l.next ∙ ap (λ x. l.line ∷ x) (sym ls) in
+    let first : MapLine 1 m (ahead t) r m' = subst (λ (i : ℕ). MapLine i m (ahead t) r m') l.one h in
     printed_on P (MapsBelow m s) (MapsBelow m' u) a b c so
-    (map_printed t.lines r, (p, λ x more k. rw (e, sym n) (inl (line.0.1.1, (r, m', more, (subst (λ (x : List (List ℕ)). MapLine 1 m x r m') line.0.1.2 first, refl, rw ns at k))))))
+    (map_printed t.lines r, (p, λ x more k. rw (e, sym l.number) (inl (l.letter, (r, m', more, (subst (λ (x : List (List ℕ)). MapLine 1 m x r m') l.rest first, refl, rw ns at k))))))
 
 -- the map ends where another letter follows, or nothing
-map_ended : (m : Network) (n : ℕ) (ls : List (List ℕ)) (x : State) (more : List ℕ) → OtherLetter 77 ls → CallLines (register_on m) n ls x more → MapLines m n ls x more
+map_ended : (m : Network) (n : ℕ) (ls : List (List ℕ)) (x : State) (more : List ℕ) → (letter_below ls ≡ Some 77 → ⊥) → CallLines (register_on m) n ls x more → MapLines m n ls x more
 map_ended m n [] x more other h = h
 map_ended m n (l ∷ ls) x more other h = inr (other, h)
 
-pub maps_done : (P : Allowing) (m : Network) (s t : Reader) (a b : List ℕ) → Printed P (MapsBelow m s) a b → LineWith 77 s false t → Printed P (CallsBelow (register_on m) t) a b
-maps_done P m s t a b (x, (e, f)) (kept, other) =
-    (x, (e, λ u more h. f u more (map_ended m (s.lines + 1) (below s) u more other (rw (kept.1, kept.2) at h))))
+pub maps_done : (P : Allowing) (m : Network) (s : Reader) (a b : List ℕ) → Printed P (MapsBelow m s) a b → (letter_below (below s) ≡ Some 77 → ⊥) → Printed P (CallsBelow (register_on m) s) a b
+maps_done P m s a b (x, (e, f)) other = (x, (e, λ u more h. f u more (map_ended m (s.lines + 1) (below s) u more other h)))
 
 -- ---- the calls
 

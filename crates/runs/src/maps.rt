@@ -42,7 +42,9 @@ pub(crate) fn run_map(reader: &mut Reader, out: &mut String) -> Result<Connector
     ensures { IfOk result (λ map. MapsRun reader.old (string_bytes out.old) (network_of map) reader.new (string_bytes out.new)) }
 {
     let mut map = ConnectorMap::new();
-    while reader.next_line_with('M') {
+    while let Some('M') = reader.letter_ahead() {
+        reader.next_line();
+        reader.letter();
         run_map_line(&mut map, reader, out)?;
     }
     Ok(map)
