@@ -171,11 +171,13 @@ mod tests {
         ] {
             assert!(rt; show::<i32>(n, Unit::Euro).as_bytes() == text.as_bytes());
         }
-        assert!(rt; show::<i32>(-2147483648, Unit::Megawatt).as_bytes() == b"-214748364.8");
+        assert!(rt;
+            show::<i32>(-2147483648, Unit::Megawatt).as_bytes() == b"-214748364.8".as_slice()
+        );
         for (n, text) in [(0, "0.0"), (200, "20.0"), (4294967295, "429496729.5")] {
             assert!(rt; show::<u32>(n, Unit::Megawatt).as_bytes() == text.as_bytes());
         }
-        assert!(rt; show::<u32>(4294967295, Unit::Count).as_bytes() == b"4294967295");
+        assert!(rt; show::<u32>(4294967295, Unit::Count).as_bytes() == b"4294967295".as_slice());
         assert_eq!(rt; NumberFault::Range.number(), 20);
     }
 }
