@@ -3,3 +3,5 @@ mod Printing
 mod Noting
 mod Telling
 pub mod Once
+mod Words
+mod Kept
