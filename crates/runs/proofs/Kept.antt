@@ -1,21 +1,24 @@
 -- What every call and every trade of a script keeps: the orders in the book have numbers that were read, contracts and areas.
-use Rattle.std.proofs.Common.{◌≡◌, ℕ, zero, suc, ◌+◌, ◌-◌, ◌<◌, ◌≤◌, Bool, true, false, not, cond, ltb, ℤ, List, [], ◌∷◌, ◌++◌, map, length, take, drop, Some, None, Ok, Err, filter, Option, sym, refl, ap, ◌∙◌, subst, inl, inr, arith, length-append, length-drop, length-take}
+use Rattle.std.proofs.Common.{◌≡◌, ℕ, zero, suc, ◌+◌, ◌-◌, ◌<◌, ◌≤◌, Bool, true, false, not, cond, ltb, ℤ, List, [], ◌∷◌, ◌++◌, map, length, take, drop, Some, None, Ok, Err, filter, Option, ◌≢◌, sym, refl, ap, ◌∙◌, subst, inl, inr, arith, length-append, length-drop, length-take}
 use Rattle.std.specs.List.{AllByRecursion}
 use Rattle.std.proofs.lemmas.Bool.{true≢false, and_left, not_from_true, not-false, ltb-true, ltb-false}
 use Rattle.std.proofs.lemmas.List.{length-map}
 use Rattle.std.proofs.ByRecursion.{All-push}
+use Rattle.book.proofs.Accepting.{accepted}
 use Rattle.book.proofs.Lasting.{all_without}
+use Rattle.book.proofs.Numbers.{lacks}
+use Rattle.book.proofs.Orderliness.{orderly_without, orderly_kept, orderly_settled}
 use Rattle.book.specs.declared.rows.Order.{Order}
-use Rattle.book.specs.Orderly.{Orderly}
+use Rattle.book.specs.Orderly.{Lacks, Orderly}
 use Rattle.book.specs.Orders.{entered, next_slice, shows, run_out, rests}
 use Rattle.book.specs.Places.{place, without, numbered_of, not_of_contract}
 use Rattle.book.specs.Ranks.{order_at}
 use Rattle.book.specs.Trades.{struck, settled}
-use Rattle.capacity.proofs.Passes.{Passes}
-use Rattle.capacity.specs.Meaning.{Capacity, Sound}
-use Rattle.flows.proofs.Balance.{Net, sound_net}
+use Rattle.capacity.specs.Meaning.{Capacity}
 use Rattle.history.proofs.Members.{in_kept}
-use Rattle.history.proofs.Moves.{carried_joins}
+use Rattle.history.proofs.AfterEntry.{others_left}
+use Rattle.history.proofs.Invariant.{orderly_push}
+use Rattle.history.proofs.Means.{enters, changes, withdraws, requests, notifies, closes}
 use Rattle.history.proofs.Numbered.{all_in, in_all, at_in, found}
 use Rattle.history.proofs.Rows.{Later, settled_later}
 use Rattle.history.specs.Standing.{◌∈◌}
@@ -23,9 +26,10 @@ use Rattle.events.specs.declared.calls.Call.{Call}
 use Rattle.events.specs.declared.calls.Call.TheVariants.{Enter, Change, Withdraw, Request, Notice, Close}
 use Rattle.events.specs.Events.{Answer, Answered, round_follows}
 use Rattle.events.specs.Turns.{Follows, Turned}
-use Rattle.events.proofs.Tests.{tests_of, led_to, passes, leads, refused}
+use Rattle.events.proofs.Tests.{passes, refused}
+use Rattle.session.specs.declared.entries.Change.{Change as AChange}
 use Rattle.session.specs.declared.entries.Entry.{Entry}
-use Rattle.session.specs.Calls.{after_entry, changed, less, terms_with}
+use Rattle.session.specs.Calls.{terms_with}
 use Rattle.session.specs.Rounds.{Logged, Makes, Ran}
 use Rattle.session.specs.State.{State, fresh}
 use Rattle.session.specs.Steps.{rested, Ends}
@@ -42,10 +46,10 @@ pub record Placed (o : Order) : Type 0 where
 pub record Kept (s : State) : Type 0 where
   pub rows : AllByRecursion Placed s.book
   pub few : length s.book ≤ 128
-  pub net : Net s.capacity.joins
+  pub orderly : Orderly s.book
 
-pub kept_fresh : (n : ℕ) (m : Capacity) → Sound m → Kept (fresh n m)
-kept_fresh n m sound = record { rows = tt; few = omega arith; net = sound_net m sound }
+pub kept_fresh : (n : ℕ) (m : Capacity) → Kept (fresh n m)
+kept_fresh n m = record { rows = tt; few = omega arith; orderly = record { fit = tt; distinct = tt } }
 
 -- ---- how long a book may be
 
@@ -94,7 +98,7 @@ kept_makes s u x m k =
     subst Kept (sym m.state) (record {
       rows = settled_placed x.trade.buy x.trade.sell x.trade.quantity s.book k.rows;
       few = let l = settled_few x.trade.buy x.trade.sell x.trade.quantity s.book in omega (arith, k.few);
-      net = subst Net (sym (carried_joins s.capacity x.trade.contract x.trade.quantity x.route)) k.net;
+      orderly = orderly_settled x.trade.buy x.trade.sell x.trade.quantity s.book k.orderly;
     })
 
 part_placed : (p : Order → Bool) (os : List Order) → AllByRecursion Placed os → AllByRecursion Placed (filter p os)
@@ -103,6 +107,10 @@ part_placed p os h = in_all Placed (filter p os) (λ x i. all_in Placed os h x (
 rested_placed : (r : Round) (os : List Order) → AllByRecursion Placed os → AllByRecursion Placed (rested r os)
 rested_placed (Regular c n) os h = part_placed (rests n) os h
 rested_placed (Batch c) os h = h
+
+rested_orderly : (r : Round) (os : List Order) → Orderly os → Orderly (rested r os)
+rested_orderly (Regular c n) os h = orderly_kept (rests n) os h
+rested_orderly (Batch c) os h = h
 
 rested_few : (r : Round) (os : List Order) → length (rested r os) ≤ length os
 rested_few (Regular c n) os = kept_few (rests n) os
@@ -113,53 +121,78 @@ kept_ends s t e k =
     subst Kept (sym e.state) (record {
       rows = rested_placed e.round s.book k.rows;
       few = let l = rested_few e.round s.book in omega (arith, k.few);
-      net = k.net;
+      orderly = rested_orderly e.round s.book k.orderly;
     })
 
 -- ---- calls
 
 module _ (s : State) (k : Kept s) where
-  entered_kept : (e : Entry) → e.number ≤ most → e.contract ≤ 23 → e.area ≤ 15 → length s.book < 128 → Kept (after_entry s e)
-  entered_kept e number contract area room =
-      let o = entered e.number e.member e.contract e.area e.terms in
-      record {
-        rows = All-push Placed s.book o k.rows (record { number = number; contract = contract; area = area });
-        few = omega (arith, length-append s.book (o ∷ []));
-        net = k.net;
-      }
+  -- the book is the same
+  same_kept : (t : State) → t.book ≡ s.book → Kept t
+  same_kept t e = record {
+    rows = subst (AllByRecursion Placed) (sym e) k.rows;
+    few = subst (λ (os : List Order). length os ≤ 128) (sym e) k.few;
+    orderly = subst Orderly (sym e) k.orderly;
+  }
 
-  changed_kept : (n m : ℕ) (l : ℤ) (q : ℕ) (x : Option ℕ) → place (numbered_of n m) s.book ≡ x → Kept (changed s l q x)
-  changed_kept n m l q None e = k
-  changed_kept n m l q (Some i) e =
-      let o = order_at s.book i in
-      let there = (found n m s.book i e).0 in
-      let was : Placed o = all_in Placed s.book k.rows o (at_in s.book i there) in
-      let o₂ = entered o.number o.member o.contract o.area (terms_with o l q) in
-      let fewer = without_few s.book i there in
-      record {
-        rows = All-push Placed (without s.book i) o₂ (all_without Placed s.book i k.rows) (record { number = was.number; contract = was.contract; area = was.area });
-        few = omega (arith, length-append (without s.book i) (o₂ ∷ []), fewer, k.few);
-        net = k.net;
-      }
+  module _ (p : ℕ) where
+    entry_kept : (e : Entry) (t : State) → e.number ≤ most → Answered s p (Enter e) (Ok None) t → Kept t
+    entry_kept e t named h =
+        let x = enters s p e t h in
+        let ps = passes s p (Enter e) None t h in
+        let o = entered e.number e.member e.contract e.area e.terms in
+        let room = ltb-true (length s.book) 128 (not-false (ltb (length s.book) 128) ps.1.1.1.1.1.1.1.1.0) in
+        subst Kept (sym x.after) (record {
+          rows = All-push Placed s.book o k.rows (record { number = named; contract = ltb-false 23 e.contract ps.1.0; area = ltb-false 15 e.area ps.1.1.1.0 });
+          few = omega (arith, length-append s.book (o ∷ []), room);
+          orderly = orderly_push s.book o k.orderly (accepted e.number e.member e.contract e.area e.terms x.terms) (lacks e.number s.book x.new);
+        })
 
-  less_kept : (n m : ℕ) (x : Option ℕ) → place (numbered_of n m) s.book ≡ x → AllByRecursion Placed (less s.book x) × (length (less s.book x) ≤ 128)
-  less_kept n m None e = (k.rows, k.few)
-  less_kept n m (Some i) e = let fewer = without_few s.book i (found n m s.book i e).0 in (all_without Placed s.book i k.rows, omega (arith, fewer, k.few))
+    change_kept : (c : AChange) (t : State) → Answered s p (Change c) (Ok None) t → Kept t
+    change_kept c t h =
+        let x = changes s p c t h in
+        let f = found c.number c.member s.book x.k x.there in
+        let o = order_at s.book x.k in
+        let was : Placed o = all_in Placed s.book k.rows o (at_in s.book x.k f.0) in
+        let left = without s.book x.k in
+        let o₂ = entered o.number o.member o.contract o.area (terms_with o c.limit c.quantity) in
+        let others : Lacks o.number left = in_all (λ (y : Order). y.number ≢ o.number) left (λ y i e. (others_left c.number c.member s.book x.k k.orderly.distinct x.there y i).1 (e ∙ f.1)) in
+        let fewer = without_few s.book x.k f.0 in
+        subst Kept (sym x.after) (record {
+          rows = All-push Placed left o₂ (all_without Placed s.book x.k k.rows) (record { number = was.number; contract = was.contract; area = was.area });
+          few = omega (arith, length-append left (o₂ ∷ []), fewer, k.few);
+          orderly = orderly_push left o₂ (orderly_without s.book x.k k.orderly) (accepted o.number o.member o.contract o.area (terms_with o c.limit c.quantity) x.terms) others;
+        })
 
-  -- an accepted call
-  led_kept : (p : ℕ) (c : Call) → Passes (tests_of s p c) → Named c → Kept (led_to s c)
-  led_kept p (Enter e) ps named =
-      entered_kept e named (ltb-false 23 e.contract ps.1.0) (ltb-false 15 e.area ps.1.1.1.0) (ltb-true (length s.book) 128 (not-false (ltb (length s.book) 128) ps.1.1.1.1.1.1.1.1.0))
-  led_kept p (Change c) ps named = changed_kept c.number c.member c.limit c.quantity (place (numbered_of c.number c.member) s.book) refl
-  led_kept p (Withdraw n m) ps named = let l = less_kept n m (place (numbered_of n m) s.book) refl in record { rows = l.0; few = l.1; net = k.net }
-  led_kept p (Request d q) ps named = record { rows = k.rows; few = k.few; net = k.net }
-  led_kept p (Notice d f) ps named = record { rows = k.rows; few = k.few; net = k.net }
-  led_kept p (Close c) ps named =
-      record { rows = part_placed (not_of_contract c) s.book k.rows; few = let l = kept_few (not_of_contract c) s.book in omega (arith, k.few); net = k.net }
+    withdrawal_kept : (n m : ℕ) (t : State) → Answered s p (Withdraw n m) (Ok None) t → Kept t
+    withdrawal_kept n m t h =
+        let x = withdraws s p n m t h in
+        let fewer = without_few s.book x.k (found n m s.book x.k x.there).0 in
+        subst Kept (sym x.after) (record { rows = all_without Placed s.book x.k k.rows; few = omega (arith, fewer, k.few); orderly = orderly_without s.book x.k k.orderly })
 
-  pub kept_called : (p : ℕ) (c : Call) (a : Answer) (t : State) → Named c → Answered s p c a t → Kept t
-  kept_called p c (Err f) t named h = subst Kept (sym (refused s p c f t h)) k
-  kept_called p c (Ok n) t named h = subst Kept (sym (leads s p c n t h)) (led_kept p c (passes s p c n t h) named)
+    closing_kept : (c n : ℕ) (t : State) → Answered s p (Close c) (Ok (Some n)) t → Kept t
+    closing_kept c n t h =
+        let fewer = kept_few (not_of_contract c) s.book in
+        subst Kept (sym (closes s p c n t h).after) (record {
+          rows = part_placed (not_of_contract c) s.book k.rows;
+          few = omega (arith, fewer, k.few);
+          orderly = orderly_kept (not_of_contract c) s.book k.orderly;
+        })
+
+    pub kept_called : (c : Call) (a : Answer) (t : State) → Named c → Answered s p c a t → Kept t
+    kept_called c (Err f) t named h = subst Kept (sym (refused s p c f t h)) k
+    kept_called (Enter e) (Ok None) t named h = entry_kept e t named h
+    kept_called (Change c) (Ok None) t named h = change_kept c t h
+    kept_called (Withdraw n m) (Ok None) t named h = withdrawal_kept n m t h
+    kept_called (Request d q) (Ok None) t named h = same_kept t (ap (λ (u : State). u.book) (requests s p d q t h).after)
+    kept_called (Notice d f) (Ok None) t named h = same_kept t (ap (λ (u : State). u.book) (notifies s p d f t h).after)
+    kept_called (Close c) (Ok (Some n)) t named h = closing_kept c n t h
+    kept_called (Enter e) (Ok (Some g)) t named h = absurd h.0
+    kept_called (Change c) (Ok (Some g)) t named h = absurd h.0
+    kept_called (Withdraw n m) (Ok (Some g)) t named h = absurd h.0
+    kept_called (Request d q) (Ok (Some g)) t named h = absurd h.0
+    kept_called (Notice d f) (Ok (Some g)) t named h = absurd h.0
+    kept_called (Close c) (Ok None) t named h = absurd h.0
 
 -- ---- turns
 
