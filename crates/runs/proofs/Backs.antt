@@ -1,5 +1,5 @@
 -- Every number of every line that a script prints reads back.
-use Rattle.std.proofs.Common.{◌≡◌, ℕ, ◌+◌, ◌<◌, ◌≤◌, Bool, true, false, cond, List, [], ◌∷◌, ◌++◌, map, length, ℤ, pos, negsuc, ◌≤ℤ◌, Some, None, Ok, Err, Option, Result, ◌==◌, nat_lt, sym, refl, ap, ◌∙◌, subst, inl, inr, arith}
+use Rattle.std.proofs.Common.{◌≡◌, ℕ, ◌+◌, ◌≤◌, Bool, true, false, cond, List, [], ◌∷◌, map, length, ℤ, None, Ok, Err, Option, Result, ◌==◌, nat_lt, sym, refl, subst, inl, inr, arith}
 use Rattle.std.specs.List.{AllByRecursion}
 use Rattle.std.proofs.ByRecursion.{All-append}
 use Rattle.std.proofs.lemmas.Int.{ints}
@@ -9,7 +9,7 @@ use Rattle.numbers.specs.Reading.{fault_number}
 use Rattle.book.specs.declared.rows.Kind.{Kind}
 use Rattle.book.specs.declared.rows.Kind.TheVariants.{Non, Ioc, Ice}
 use Rattle.book.specs.declared.rows.Order.{Order}
-use Rattle.book.specs.Orderly.{InLimits, Parted, Fit, Orderly}
+use Rattle.book.specs.Orderly.{InLimits, Parted, Fit}
 use Rattle.book.specs.Ranks.{order_at}
 use Rattle.capacity.specs.declared.faults.MapFault.{MapFault}
 use Rattle.capacity.specs.declared.faults.MapFault.TheVariants as map_fault
@@ -31,29 +31,26 @@ use Rattle.session.specs.declared.faults.SessionFault.TheVariants as session
 use Rattle.session.specs.Faults.{told, number_of}
 use Rattle.session.specs.Rounds.{Logged, Makes, Ran}
 use Rattle.session.specs.State.{State, fresh}
-use Rattle.events.specs.declared.calls.Call.{Call}
 use Rattle.events.specs.Events.{Answer, acceptance, round_follows}
-use Rattle.events.specs.Turns.{Follows, Turned}
+use Rattle.events.specs.Turns.{Follows}
 use Rattle.history.proofs.Dealing.{deal_size}
 use Rattle.history.proofs.Numbered.{all_in, at_in}
 use Rattle.reading.specs.declared.faults.WordFault.{WordFault}
 use Rattle.reading.specs.declared.faults.WordFault.TheVariants.{Form, Number}
-use Rattle.reading.specs.declared.faults.LinkFault.{LinkFault}
 use Rattle.reading.specs.declared.faults.LinkFault.TheVariants as link
 use Rattle.reading.specs.Faults.{word_number, word_place, upward}
-use Rattle.reading.specs.Output.{mark_line, refusal_line, place_figure}
+use Rattle.reading.specs.Output.{refusal_line, place_figure}
 use Rattle.reading.specs.Printing.{Line, plain, price, ReadsBack, LineReadsBack}
-use Rattle.reading.specs.Text.{cut, onto, lines, words}
+use Rattle.reading.specs.Text.{onto, lines, words}
 use Rattle.reading.proofs.Printing.{plain_back, amount_back, price_back}
 use Rattle.lines.specs.Asking.{Asks}
-use Rattle.lines.specs.declared.faults.LineFault.{LineFault}
-use Rattle.lines.specs.declared.faults.LineFault.TheVariants.{Word, Session}
+use Rattle.lines.specs.declared.faults.LineFault.TheVariants.{Session}
 use Rattle.runs.specs.Lines.{Outcome, unread, turn, session_number, LineComes, LinesCome, answer_line, printed, all_printed}
-use Rattle.runs.specs.Maps.{Linked, Connects, MapLine, map_printed, register_on}
-use Rattle.runs.specs.Output.{refused_line, trade_line}
-use Rattle.runs.specs.Runs.{CallLines, MapLines, Misformed, Headed, ComesTo, Prints, PrintsReadBack}
+use Rattle.runs.specs.Maps.{Linked, MapLine, map_printed, register_on}
+use Rattle.runs.specs.Output.{trade_line}
+use Rattle.runs.specs.Runs.{CallLines, MapLines, Misformed, Headed, ComesTo, PrintsReadBack}
 use Rattle.runs.proofs.Kept.{Placed, Kept, kept_fresh, kept_called, kept_makes, kept_turned}
-use Rattle.runs.proofs.Words.{most, Within, Named, asks_within, link_within, asks_named}
+use Rattle.runs.proofs.Words.{most, Within, asks_within, link_within, asks_named}
 
 abbrev Back : List Line → Type 0
 Back out = AllByRecursion LineReadsBack out

@@ -1,5 +1,5 @@
 -- What every call and every trade of a script keeps: the orders in the book have numbers that were read, contracts and areas.
-use Rattle.std.proofs.Common.{◌≡◌, ℕ, zero, suc, ◌+◌, ◌-◌, ◌<◌, ◌≤◌, Bool, true, false, not, cond, ltb, ℤ, List, [], ◌∷◌, ◌++◌, map, length, take, drop, Some, None, Ok, Err, filter, Option, ◌≢◌, sym, refl, ap, ◌∙◌, subst, inl, inr, arith, length-append, length-drop, length-take}
+use Rattle.std.proofs.Common.{◌≡◌, ℕ, ◌+◌, ◌-◌, ◌<◌, ◌≤◌, Bool, true, false, not, cond, ltb, List, [], ◌∷◌, map, length, take, drop, Some, None, Ok, Err, filter, ◌≢◌, sym, refl, ap, ◌∙◌, subst, arith, length-append, length-drop, length-take}
 use Rattle.std.specs.List.{AllByRecursion}
 use Rattle.std.proofs.lemmas.Bool.{true≢false, and_left, not_from_true, not-false, ltb-true, ltb-false}
 use Rattle.std.proofs.lemmas.List.{length-map}
@@ -11,7 +11,7 @@ use Rattle.book.proofs.Orderliness.{orderly_without, orderly_kept, orderly_settl
 use Rattle.book.specs.declared.rows.Order.{Order}
 use Rattle.book.specs.Orderly.{Lacks, Orderly}
 use Rattle.book.specs.Orders.{entered, next_slice, shows, run_out, rests}
-use Rattle.book.specs.Places.{place, without, numbered_of, not_of_contract}
+use Rattle.book.specs.Places.{without, not_of_contract}
 use Rattle.book.specs.Ranks.{order_at}
 use Rattle.book.specs.Trades.{struck, settled}
 use Rattle.capacity.specs.Meaning.{Capacity}
@@ -21,7 +21,6 @@ use Rattle.history.proofs.Invariant.{orderly_push}
 use Rattle.history.proofs.Means.{enters, changes, withdraws, requests, notifies, closes}
 use Rattle.history.proofs.Numbered.{all_in, in_all, at_in, found}
 use Rattle.history.proofs.Rows.{Later, settled_later}
-use Rattle.history.specs.Standing.{◌∈◌}
 use Rattle.events.specs.declared.calls.Call.{Call}
 use Rattle.events.specs.declared.calls.Call.TheVariants.{Enter, Change, Withdraw, Request, Notice, Close}
 use Rattle.events.specs.Events.{Answer, Answered, round_follows}
@@ -90,8 +89,8 @@ later_placed x y l p = record { number = omega (arith, l.number, p.number); cont
 settled_placed : (b s q : ℕ) (os : List Order) → AllByRecursion Placed os → AllByRecursion Placed (settled b s q os)
 settled_placed b s q os h =
     in_all Placed (settled b s q os) (λ x i.
-        let y = settled_later b s q x os i in
-        later_placed x y.0 y.2 (all_in Placed os h y.0 y.1))
+    let y = settled_later b s q x os i in
+    later_placed x y.0 y.2 (all_in Placed os h y.0 y.1))
 
 pub kept_makes : (s u : State) (x : Logged) → Makes s x u → Kept s → Kept u
 kept_makes s u x m k =

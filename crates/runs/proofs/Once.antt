@@ -23,7 +23,7 @@ use Rattle.reading.specs.Text.{lines, words}
 use Rattle.reading.proofs.Once.{not_both, one_making}
 use Rattle.lines.proofs.Once.{one_asking}
 use Rattle.runs.specs.Lines.{session_number, Outcome, unread, turn, LinesCome, all_printed}
-use Rattle.runs.specs.Maps.{Linked, Connects, MapLine, map_printed, register_on}
+use Rattle.runs.specs.Maps.{Linked, Connects, map_printed, register_on}
 use Rattle.runs.specs.Runs.{CallLines, MapLines, Misformed, Headed, ComesTo, OnePrint}
 use Rattle.runs.specs.Running.{OneOutcome, OneLink}
 

@@ -191,7 +191,7 @@ module _ {S : Type 0} (H : S → List ℕ → S → Type 0) (whole : Whole H) wh
   line_more P x y p s t u answer a b c so number one run =
       let o = run.outcome in
       let comes : LineComes 1 0 x (words one.line) o y =
-          subst (λ (z : List (List ℕ)). LineComes 1 0 x z o y) one.all (subst (λ (i : ℕ). LineComes 1 i x (ahead t) o y) one.unread (subst (λ (q : ℕ). LineComes q t.words x (ahead t) o y) number run.comes)) in
+      subst (λ (z : List (List ℕ)). LineComes 1 0 x z o y) one.all (subst (λ (i : ℕ). LineComes 1 i x (ahead t) o y) one.unread (subst (λ (q : ℕ). LineComes q t.words x (ahead t) o y) number run.comes)) in
       printed_on P (TurnsBelow x s) (TurnsBelow y u) a b c so (
         printed t.lines o,
         (

@@ -1,11 +1,9 @@
 -- What the words of a line may be: a number without a sign is in range, and so is the place of a word at fault.
-use Rattle.std.proofs.Common.{◌≡◌, ℕ, zero, suc, ◌+◌, ◌<◌, ◌≤◌, List, [], ◌∷◌, length, ℤ, pos, negsuc, ◌≤ℤ◌, nat_abs, Some, None, Ok, Err, Option, Result, ◌==◌, MatchBool, Bool, true, false, arith, sym, refl, ap, ◌∙◌, subst}
+use Rattle.std.proofs.Common.{◌≡◌, ℕ, zero, suc, ◌+◌, ◌<◌, ◌≤◌, List, [], ◌∷◌, length, ℤ, nat_abs, Some, None, Ok, Err, Option, Result, ◌==◌, MatchBool, Bool, true, false, arith, sym, ap, ◌∙◌, subst}
 use Rattle.std.proofs.lemmas.Int.{ints}
 use Rattle.numbers.specs.declared.Unit.{Unit as Measure}
 use Rattle.numbers.specs.declared.Unit.TheVariants as unit
 use Rattle.numbers.specs.declared.NumberFault.{NumberFault}
-use Rattle.numbers.specs.declared.NumberFault.TheVariants as number
-use Rattle.numbers.specs.Reading.{InRange, fault_number}
 use Rattle.book.specs.declared.rows.Kind.{Kind}
 use Rattle.book.specs.declared.rows.Side.{Side}
 use Rattle.events.specs.declared.calls.Call.{Call}
@@ -13,12 +11,9 @@ use Rattle.events.specs.declared.calls.Call.TheVariants.{Enter, Change, Withdraw
 use Rattle.reading.specs.declared.faults.WordFault.{WordFault}
 use Rattle.reading.specs.declared.faults.WordFault.TheVariants.{Form, Number}
 use Rattle.reading.specs.declared.fields.Field.{Field}
-use Rattle.reading.specs.declared.fields.Field.TheVariants.{Count, Signed, Letters}
-use Rattle.reading.specs.Faults.{word_number}
-use Rattle.reading.specs.Fields.{WordAnswers, Faulty, Numbers, first_letter, after_letter}
+use Rattle.reading.specs.declared.fields.Field.TheVariants.{Count}
+use Rattle.reading.specs.Fields.{WordAnswers, Faulty, first_letter, after_letter}
 use Rattle.reading.specs.Making.{Makes, MakesOfCounts, sizes, link_fields, link}
-use Rattle.reading.specs.Output.{place_figure}
-use Rattle.reading.specs.declared.links.Link.{Link}
 use Rattle.lines.specs.Asking.{notice_fields, notice, request_fields, request, change_fields, change, withdrawal_fields, withdrawal, closing_fields, closing, entry_fields, entry, EntryBy, EntryLine, ByLetter, Asks}
 
 -- the most that a reader without a sign reads

@@ -40,8 +40,7 @@ fn take_turn<R: Register, S: TextSink>(
     reader: &mut Reader,
     out: &mut Printer<S>,
 ) -> (Result<(), LineFault>, QuietPass)
-    ensures turn {
-        let s = state R.Register.meaning session.old in let t = state R.Register.meaning session.new in
+    ensures turn { let s = state R.Register.meaning session.old in let t = state R.Register.meaning session.new in
         TurnRun S.TextSink.hears s pass.number reader.old out.old.sink result.0 t reader.new out.new.sink }
     ensures stays { InLine reader.old reader.new }
     ensures pass { result.1.number ≡ pass.number }
@@ -73,8 +72,7 @@ pub fn run_line<R: Register, S: TextSink>(
     reader: &mut Reader,
     out: &mut Printer<S>,
 ) -> (Result<(), LineFault>, QuietPass)
-    ensures line {
-        let s = state R.Register.meaning session.old in let t = state R.Register.meaning session.new in
+    ensures line { let s = state R.Register.meaning session.old in let t = state R.Register.meaning session.new in
         LineRun S.TextSink.hears s pass.number reader.old out.old.sink result.0 t reader.new out.new.sink }
     ensures only { OneOutcome pass.number reader.old.words (state R.Register.meaning session.old) (ahead reader.old) }
     ensures stays { InLine reader.old reader.new }
@@ -92,8 +90,7 @@ pub(crate) fn run_calls<R: Register + Drop, S: TextSink>(
     reader: &mut Reader,
     out: &mut Printer<S>,
 ) -> Session<R>
-    ensures {
-        let t = state R.Register.meaning result in
+    ensures { let t = state R.Register.meaning result in
         CallsRun S.TextSink.hears (R.Register.meaning register) reader.old out.old.sink t out.new.sink }
 {
     let (mut session, mut pass) = Session::begin(SESSION_NUMBER, register);

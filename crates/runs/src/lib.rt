@@ -2,7 +2,6 @@
 #![tactic(auto)]
 
 pub mod calls;
-
 pub mod maps;
 pub mod output;
 pub mod run;

@@ -31,8 +31,7 @@ pub fn run_map_line<S: TextSink>(
     reader: &mut Reader,
     out: &mut Printer<S>,
 ) -> Result<(), LinkFault>
-    ensures line {
-        let m = network_of map.old in let m' = network_of map.new in
+    ensures line { let m = network_of map.old in let m' = network_of map.new in
         MapLineRun S.TextSink.hears m reader.old out.old.sink result m' out.new.sink }
     ensures reads { LinkReadTo reader.old result reader.new }
     ensures only { OneLink reader.old.words (network_of map.old) (ahead reader.old) }

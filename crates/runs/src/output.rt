@@ -11,6 +11,7 @@ use session::finishing::TradeLog;
 use trades::Trade;
 
 /// A sink, as the log of turns. It holds the sink by value: of one that is only lent, a log could not say what it is afterwards.
+#[derive(Drop)]
 pub struct Printer<S> {
     pub sink: S,
 }

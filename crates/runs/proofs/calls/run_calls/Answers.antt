@@ -15,10 +15,9 @@ pub loop-pass-preserved : goal.loop-pass-preserved
 loop-pass-preserved g c =
     let P : Allowing = TurnsBelow (state g.R.Register.meaning c.begin-session.result.0) c.args.reader.now in
     let l = c.run_line.ensures in
-    let one = one_line c.loop-pass.reader c.next_line.new.self c.run_line.new.reader c.loop-pass-test.ensures l.stays in
-    (
+    let one = one_line c.loop-pass.reader c.next_line.new.self c.run_line.new.reader c.loop-pass-test.ensures l.stays in (
       line_more g.S.TextSink.hears g.S.TextSink.whole P _ _ c.loop-pass.pass.number c.loop-pass.reader c.next_line.new.self c.run_line.new.reader c.run_line.result.0 c.args.out.now.sink c.loop-pass.out.sink c.run_line.new.out.sink
-      c.loop-pass.invariant.0 c.loop-pass.invariant.1 one l.line,
+          c.loop-pass.invariant.0 c.loop-pass.invariant.1 one l.line,
       l.pass ∙ c.loop-pass.invariant.1,
     )
 

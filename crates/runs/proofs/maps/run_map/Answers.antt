@@ -4,7 +4,7 @@ use Rattle.capacity.specs.Network.{no_network}
 use Rattle.reading.specs.Fields.{letter_below}
 use Rattle.reading.specs.Reading.{below}
 use Rattle.runs.specs.Running.{MapsBelow}
-use Rattle.runs.proofs.Printing.{none_printed, m_line, map_more}
+use Rattle.runs.proofs.Printing.{m_line, map_more}
 use Rattle.runs.proofs.maps.run_map.Goals as goal
 
 pub loop-reader-preserved : goal.loop-reader-preserved
