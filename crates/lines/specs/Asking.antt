@@ -1,5 +1,5 @@
 -- What a line asks for: by its letter, and the numbers, side and kind that follow it.
-use Rattle.std.specs.Prelude.{◌≡◌, ℕ, ◌+◌, List, [], ◌∷◌, ℤ, Some, None, Err, codes, MatchBool, Option, Result, ◌==◌, ◌≢◌, slice_index_or}
+use Rattle.std.specs.Prelude.{◌≡◌, ℕ, ◌+◌, List, [], ◌∷◌, ℤ, Some, None, Ok, Err, codes, MatchBool, Option, Result, ◌==◌, ◌≢◌, length, take, slice_index_or}
 use Rattle.numbers.specs.declared.Unit.TheVariants as unit
 use Rattle.book.specs.declared.rows.Kind.{Kind}
 use Rattle.book.specs.declared.rows.Kind.TheVariants.{Non, Ioc, Ice}
@@ -9,11 +9,13 @@ use Rattle.capacity.specs.declared.direction.Direction.{Direction}
 use Rattle.events.specs.declared.calls.Call.{Call}
 use Rattle.events.specs.declared.calls.Call.TheVariants.{Enter, Change, Withdraw, Request, Notice, Close}
 use Rattle.reading.specs.declared.faults.WordFault.{WordFault}
-use Rattle.reading.specs.declared.faults.WordFault.TheVariants.{Form}
+use Rattle.reading.specs.declared.faults.WordFault.TheVariants.{Form, Number}
 use Rattle.reading.specs.declared.fields.Field.{Field}
 use Rattle.reading.specs.declared.fields.Field.TheVariants.{Count, Signed, Letters}
-use Rattle.reading.specs.Fields.{first_letter, after_letter}
+use Rattle.reading.specs.declared.reader.Reader.{Reader}
+use Rattle.reading.specs.Fields.{first_letter, after_letter, WordsRead, StoppedAt}
 use Rattle.reading.specs.Making.{Makes, MakesOfCounts, sizes, at, count}
+use Rattle.reading.specs.Reading.{ahead}
 
 -- the direction that the first three numbers name
 abbrev pub direction : List ℕ → Direction
@@ -109,3 +111,10 @@ ByLetter (Some c) i ws r =
 -- what the words of a line ask for, with i words before them
 abbrev pub Asks : ℕ → List (List ℕ) → Result Call WordFault → Type 0
 Asks i ws r = ByLetter (first_letter ws) (i + 1) (after_letter ws) r
+
+-- How far a line is read: to its end, where it asks for a call; its first word, if it has one, where its form is wrong;
+-- else up to the word at fault.
+abbrev pub LineReadTo : Reader → Result Call WordFault → Reader → Type 0
+LineReadTo s (Ok k) t = WordsRead (length (ahead s)) s t
+LineReadTo s (Err Form) t = WordsRead (length (take 1 (ahead s))) s t
+LineReadTo s (Err (Number i f)) t = StoppedAt s (Number i f) t

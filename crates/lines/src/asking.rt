@@ -1,8 +1,9 @@
 // What a line asks for, as a call on a session.
+ghost use Rattle.std.specs.Prelude.{length};
 ghost use Rattle.reading.specs.Reading.{ahead};
-ghost use Rattle.reading.specs.Fields.{InLine};
+ghost use Rattle.reading.specs.Fields.{InLine, ReadTo};
 ghost use Rattle.reading.specs.Making.{Makes, MakesOfCounts};
-ghost use Rattle.lines.specs.Asking.{notice_fields, notice, request_fields, request, change_fields, change, withdrawal_fields, withdrawal, closing_fields, closing, EntryLine, Asks};
+ghost use Rattle.lines.specs.Asking.{notice_fields, notice, request_fields, request, change_fields, change, withdrawal_fields, withdrawal, closing_fields, closing, EntryLine, Asks, LineReadTo};
 
 use crate::entries::{kind_of, side_of};
 use book::rows::OrderTerms;
@@ -24,6 +25,7 @@ const KIND: u32 = 5;
 
 fn notice(reader: &mut Reader) -> Result<Call, WordFault>
     ensures call { MakesOfCounts reader.old.words notice_fields notice (ahead reader.old) result }
+    ensures reads { ReadTo (length (ahead reader.old)) reader.old result reader.new }
     ensures stays { InLine reader.old reader.new }
 {
     let counts = reader.counts([COUNT, COUNT, COUNT, POWER, POWER, POWER, POWER])?;
@@ -41,6 +43,7 @@ fn notice(reader: &mut Reader) -> Result<Call, WordFault>
 
 fn request(reader: &mut Reader) -> Result<Call, WordFault>
     ensures call { MakesOfCounts reader.old.words request_fields request (ahead reader.old) result }
+    ensures reads { ReadTo (length (ahead reader.old)) reader.old result reader.new }
     ensures stays { InLine reader.old reader.new }
 {
     let counts = reader.counts([COUNT, COUNT, COUNT, POWER])?;
@@ -53,6 +56,7 @@ fn request(reader: &mut Reader) -> Result<Call, WordFault>
 
 fn change(reader: &mut Reader) -> Result<Call, WordFault>
     ensures call { Makes reader.old.words change_fields change (ahead reader.old) result }
+    ensures reads { ReadTo (length (ahead reader.old)) reader.old result reader.new }
     ensures stays { InLine reader.old reader.new }
 {
     let numbers = reader.numbers([COUNT, COUNT, LIMIT, POWER])?;
@@ -69,6 +73,7 @@ fn change(reader: &mut Reader) -> Result<Call, WordFault>
 
 fn withdrawal(reader: &mut Reader) -> Result<Call, WordFault>
     ensures call { MakesOfCounts reader.old.words withdrawal_fields withdrawal (ahead reader.old) result }
+    ensures reads { ReadTo (length (ahead reader.old)) reader.old result reader.new }
     ensures stays { InLine reader.old reader.new }
 {
     let counts = reader.counts([COUNT, COUNT])?;
@@ -78,6 +83,7 @@ fn withdrawal(reader: &mut Reader) -> Result<Call, WordFault>
 
 fn closing(reader: &mut Reader) -> Result<Call, WordFault>
     ensures call { MakesOfCounts reader.old.words closing_fields closing (ahead reader.old) result }
+    ensures reads { ReadTo (length (ahead reader.old)) reader.old result reader.new }
     ensures stays { InLine reader.old reader.new }
 {
     let counts = reader.counts([COUNT])?;
@@ -87,6 +93,7 @@ fn closing(reader: &mut Reader) -> Result<Call, WordFault>
 
 fn entry(reader: &mut Reader) -> Result<Call, WordFault>
     ensures call { EntryLine reader.old.words (ahead reader.old) result }
+    ensures reads { ReadTo (length (ahead reader.old)) reader.old result reader.new }
     ensures stays { InLine reader.old reader.new }
 {
     let side = side_of(reader.word_ahead(SIDE));
@@ -126,10 +133,12 @@ fn entry(reader: &mut Reader) -> Result<Call, WordFault>
     }))
 }
 
-// What the words that are left of the line ask for, its letter first. How far into the line the reader then is, is not promised:
-// a caller goes on to the next line.
+// What the words that are left of the line ask for, its letter first. It is refused by 17 where letter, count of words, side or kind
+// is wrong, and by 18 to 20 for the leftmost word at fault.
+#[tactic(auto, using(crate::proofs::Passed::line_read))]
 pub fn call(reader: &mut Reader) -> Result<Call, WordFault>
     ensures call { Asks reader.old.words (ahead reader.old) result }
+    ensures reads { LineReadTo reader.old result reader.new }
     ensures stays { InLine reader.old reader.new }
 {
     let letter = reader.letter().ok_or(WordFault::Form)?;

@@ -1,5 +1,5 @@
 -- The number words of a line: their numbers, or the leftmost one that is no number of its unit.
-use Rattle.std.specs.Prelude.{◌≡◌, ℕ, zero, suc, ◌+◌, Bool, true, false, List, [], ◌∷◌, length, take, drop, ℤ, pos, Some, None, Ok, Err, Option, Result}
+use Rattle.std.specs.Prelude.{◌≡◌, ℕ, zero, suc, ◌+◌, true, false, List, [], ◌∷◌, length, take, drop, ℤ, pos, Some, None, Ok, Err, Option, Result}
 use Rattle.numbers.specs.declared.NumberFault.{NumberFault}
 use Rattle.numbers.specs.Reading.{Answers}
 use Rattle.reading.specs.declared.fields.Field.{Field}
@@ -8,7 +8,7 @@ use Rattle.reading.specs.declared.faults.WordFault.{WordFault}
 use Rattle.reading.specs.declared.faults.WordFault.TheVariants.{Form, Number}
 use Rattle.reading.specs.declared.reader.Reader.{Reader}
 use Rattle.reading.specs.Text.{words}
-use Rattle.reading.specs.Reading.{ahead, below, Kept}
+use Rattle.reading.specs.Reading.{ahead, below}
 
 -- what a word is read as: a number of its unit, below nought only where that is allowed; letters are no number, and stand as nought
 abbrev pub WordAnswers : Field → List ℕ → Result ℤ NumberFault → Type 0
@@ -79,17 +79,10 @@ pub record LetterTaken (s : Reader) (l : Option ℕ) (t : Reader) : Type 0 where
   pub passed : l ≡ None → t.words ≡ s.words + length (take 1 (ahead s))
   pub stays : InLine s t
 
--- no line follows, or one with another letter than c
-abbrev pub OtherLetter : ℕ → List (List ℕ) → Type 0
-OtherLetter c [] = Unit {0}
-OtherLetter c (l ∷ ls) = first_letter (words l) ≡ Some c → ⊥
-
--- the next line has the letter c, which is read; else nothing is
-abbrev pub LineWith : ℕ → Reader → Bool → Reader → Type 0
-LineWith c s false t = Kept s t × OtherLetter c (below s)
-LineWith c s true t =
-    ((l : List ℕ) × ((below s ≡ l ∷ below t) × (first_letter (words l) ≡ Some c) × (ahead t ≡ after_letter (words l))))
-    × (t.lines ≡ s.lines + 1) × (t.words ≡ 1)
+-- the letter of the first of some lines
+abbrev pub letter_below : List (List ℕ) → Option ℕ
+letter_below [] = None
+letter_below (l ∷ ls) = first_letter (words l)
 
 -- one word is taken, and is a number by its field, or not
 abbrev pub OneFault : ℕ → Field → List (List ℕ) → WordFault → Type 0

@@ -1,5 +1,7 @@
 // The letter of a line, which says what its words are.
-ghost use Rattle.reading.specs.Fields.{LetterTaken, LineWith};
+ghost use Rattle.std.specs.Prelude.{◌≡◌};
+ghost use Rattle.reading.specs.Reading.{below};
+ghost use Rattle.reading.specs.Fields.{LetterTaken, letter_below};
 
 use crate::reader::Reader;
 
@@ -14,15 +16,15 @@ impl<'a> Reader<'a> {
         }
     }
 
-    // Goes to the next line and past its letter, if it is this one; else nothing is read.
-    pub fn next_line_with(&mut self, letter: char) -> bool
-        ensures { LineWith letter self.old result self.new }
+    // The letter of the next line, where one follows and has one; nothing is read.
+    pub fn letter_ahead(&self) -> Option<char>
+        ensures { result ≡ letter_below (below self.now) }
     {
         let mut probe = *self;
-        let there = probe.next_line() && probe.letter().is_some_and(|found| found == letter);
-        if there {
-            *self = probe;
+        if probe.next_line() {
+            probe.letter()
+        } else {
+            None
         }
-        there
     }
 }
