@@ -1,6 +1,5 @@
 -- What is printed is read back.
-use Rattle.std.proofs.Common.{◌≡◌, ℕ, ◌+◌, ◌*◌, ◌/◌, ◌%◌, ◌^◌, ◌<◌, ◌≤◌, Bool, true, false, List, [], ◌∷◌, ◌++◌, length, ℤ, pos, negsuc, nat_abs, IfOk, Ok, decimal, Result, sym, refl, ap, ◌∙◌, subst, append-nil, arith, length-append}
-use Rattle.std.proofs.lemmas.Result.{IfOk-weaker}
+use Rattle.std.proofs.Common.{◌≡◌, ℕ, ◌+◌, ◌*◌, ◌/◌, ◌%◌, ◌^◌, ◌<◌, ◌≤◌, Bool, true, false, List, [], ◌∷◌, ◌++◌, length, ℤ, pos, negsuc, nat_abs, Ok, decimal, sym, refl, ap, ◌∙◌, append-nil, arith, length-append}
 use Rattle.std.proofs.lemmas.Int.{ints}
 use Rattle.std.proofs.lemmas.Fmt.{digits_decimal, digits_value-decimal, decimal_nonempty, decimal_digit, length-decimal-le}
 use Rattle.numbers.specs.declared.Unit.{Unit as Measure}
@@ -65,7 +64,3 @@ printed Euro z few =
 pub back : (unit : Measure) (sign : Bool) (z : ℤ) → InRange sign z → Answers (shown unit z) unit sign (Ok z)
 back unit true z r = (printed unit z (omega (arith, ints)), r)
 back unit false z r = (printed unit z (omega (arith, ints)), r)
-
--- what holds of a text holds of the string that has it
-pub held : {T E : Type 0} (r : Result T E) (bytes : T → List ℕ) (bs : List ℕ) (P : List ℕ → Type 0) → P bs → IfOk r (λ t. bytes t ≡ bs) → IfOk r (λ t. P (bytes t))
-held r bytes bs P h m = IfOk-weaker r (λ t. bytes t ≡ bs) (λ t. P (bytes t)) (λ t e. subst P (sym e) h) m

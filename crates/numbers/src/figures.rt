@@ -1,5 +1,5 @@
 // What a count is kept in: 32 bits with a sign, or 31 bits without one.
-ghost use Rattle.std.specs.Prelude.{◌≡◌, ◌≤◌, ℤ, Bool, true, false, pos, Result};
+ghost use Rattle.std.specs.Prelude.{◌≡◌, ◌≤◌, ◌<◌, ◌^◌, unsigned_abs, ℤ, Bool, true, false, pos, Result};
 ghost use Rattle.numbers.specs.declared.NumberFault.{NumberFault};
 ghost use Rattle.numbers.specs.Reading.{InRange, as_signed};
 ghost use Rattle.numbers.specs.Figures.{FigureLaws, signed_laws, unsigned_laws};
@@ -27,6 +27,7 @@ pub trait Figure: Sized {
     // How many units it is.
     fn units(self) -> i64
         ensures number { result ≡ value self }
+        ensures few { unsigned_abs (value self) < 2 ^ 32 }
         ensures again { Readable self → InRange signed (value self) };
 
     // An answer is that of one figure or of one refusal.
@@ -69,6 +70,6 @@ impl Figure for u32 {
     }
 
     fn units(self) -> i64 {
-        i64::from(self)
+        self.into()
     }
 }

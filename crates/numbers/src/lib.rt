@@ -1,14 +1,12 @@
 // Number words read exactly as counts of a unit, and counts printed so that they read back the same.
 #![tactic(auto)]
 
-ghost use Rattle.std.specs.Prelude.{◌≡◌, pos, IfOk, Ok, Result, string_bytes, MatchResult};
+ghost use Rattle.std.specs.Prelude.{◌≡◌, pos, Ok, Result, MatchResult};
 ghost use Rattle.numbers.specs.Numerals.{minus_text};
 ghost use Rattle.numbers.specs.Reading.{scale_of, fault_number, Means, Answers};
-ghost use Rattle.numbers.specs.Printing.{is_below, shown};
+ghost use Rattle.numbers.specs.Printing.{is_below, shown, text_of};
 ghost use Rattle.numbers.specs.Examples.{Examples};
 ghost use Rattle.numbers.specs.Scans.{Unread, SizeIs, NoSize};
-
-use std::alloc::{AllocError, Global};
 
 mod figures;
 mod scale;
@@ -17,6 +15,7 @@ mod text;
 
 pub use figures::Figure;
 use scan::Part;
+pub use text::Shown;
 
 // The most bytes of a number word.
 const LONGEST: usize = 16;
@@ -94,13 +93,13 @@ fn sign_of(n: i64) -> &'static str
     if n < 0 { "-" } else { "" }
 }
 
-// A count as a word with the unit's decimals.
-pub fn show<F: Figure>(heap: Global, figure: F, unit: Unit) -> Result<String, AllocError>
-    ensures text { IfOk result (λ t. string_bytes t ≡ shown unit (F.value figure)) }
-    ensures back { F.Readable figure → IfOk result (λ t. Answers (string_bytes t) unit F.signed (Ok (F.value figure))) }
+/// A count as a word with the unit's decimals.
+pub fn show<F: Figure>(figure: F, unit: Unit) -> Shown
+    ensures text { text_of result ≡ shown unit (F.value figure) }
+    ensures back { F.Readable figure → Answers (text_of result) unit F.signed (Ok (F.value figure)) }
 {
     let n = figure.units();
-    text::show_size(heap, sign_of(n), n.unsigned_abs(), unit)
+    text::show_size(sign_of(n), n.unsigned_abs(), unit)
 }
 
 // The examples, as a theorem.
@@ -111,7 +110,6 @@ pub fn examples_hold()
 #[cfg(test)]
 mod tests {
     use super::*;
-    use std::test::Fail;
 
     const FORM: NumberFault = NumberFault::Form;
 
@@ -165,18 +163,21 @@ mod tests {
     }
 
     #[test]
-    fn printed(rt: HostRuntime) -> Result<(), Fail> {
+    fn printed(rt: HostRuntime) {
         for (n, text) in [
             (-5, "-0.05"),
             (5000, "50.00"),
             (-2147483648, "-21474836.48"),
         ] {
-            assert!(rt; show::<i32>(rt.alloc(), n, Unit::Euro)?.as_bytes() == text.as_bytes());
+            assert!(rt; show::<i32>(n, Unit::Euro).as_bytes() == text.as_bytes());
         }
+        assert!(rt;
+            show::<i32>(-2147483648, Unit::Megawatt).as_bytes() == b"-214748364.8".as_slice()
+        );
         for (n, text) in [(0, "0.0"), (200, "20.0"), (4294967295, "429496729.5")] {
-            assert!(rt; show::<u32>(rt.alloc(), n, Unit::Megawatt)?.as_bytes() == text.as_bytes());
+            assert!(rt; show::<u32>(n, Unit::Megawatt).as_bytes() == text.as_bytes());
         }
+        assert!(rt; show::<u32>(4294967295, Unit::Count).as_bytes() == b"4294967295".as_slice());
         assert_eq!(rt; NumberFault::Range.number(), 20);
-        Ok(())
     }
 }

@@ -4,3 +4,5 @@ mod Numbering
 pub mod Once
 pub mod Made
 mod Words
+pub mod Heard
+pub mod Printing

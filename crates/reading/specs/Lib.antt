@@ -3,6 +3,7 @@ pub mod Text
 pub mod Reading
 pub mod Faults
 pub mod Fields
+pub mod Sinks
 pub mod Output
 pub mod Printing
 pub mod Making

@@ -1,12 +1,14 @@
 -- The lines that every run prints.
-use Rattle.std.specs.Prelude.{ℕ, List, ◌++◌, codes, decimal, Some, None, Option}
+use Rattle.std.specs.Prelude.{ℕ, List, [], ◌∷◌, codes, Some, None, Option}
+use Rattle.reading.specs.Printing.{Line, plain}
 
--- mark and version: the first line of a script, and of what it prints
+-- mark and version: the first line of a script
 abbrev pub mark : List ℕ
 mark = codes "CTM 1"
 
-abbrev pub mark_line : List ℕ
-mark_line = codes "CTM 1\n"
+-- and the first line of what it prints
+abbrev pub mark_line : Line
+mark_line = record { letter = codes "CTM"; numbers = plain 1 ∷ [] }
 
 -- the place of the word at fault as it is printed, 0 where no word is at fault
 abbrev pub place_figure : Option ℕ → ℕ
@@ -14,9 +16,10 @@ place_figure None = 0
 place_figure (Some i) = i
 
 -- the number of the line, that of its refusal, and the place of the word at fault
-abbrev pub refusal_line : ℕ → ℕ → Option ℕ → List ℕ
-refusal_line n number place = codes "R " ++ (decimal n ++ (codes " " ++ (decimal number ++ (codes " " ++ (decimal (place_figure place) ++ codes "\n")))))
+abbrev pub refusal_line : ℕ → ℕ → Option ℕ → Line
+refusal_line n number place =
+    record { letter = codes "R"; numbers = plain n ∷ plain number ∷ plain (place_figure place) ∷ [] }
 
 -- how many orders rest
-abbrev pub quiet_line : ℕ → List ℕ
-quiet_line k = codes "Q " ++ (decimal k ++ codes "\n")
+abbrev pub quiet_line : ℕ → Line
+quiet_line k = record { letter = codes "Q"; numbers = plain k ∷ [] }

@@ -1,10 +1,12 @@
 -- Printed lines: a letter, and numbers that each follow a space; and that every number of a line reads back.
-use Rattle.std.specs.Prelude.{◌≡◌, ℕ, Bool, true, false, List, [], ◌∷◌, ◌++◌, ℤ, pos, codes, Ok}
+use Rattle.std.specs.Prelude.{ℕ, Bool, true, false, List, [], ◌∷◌, ◌++◌, ℤ, pos, codes, Ok}
 use Rattle.std.specs.List.{AllByRecursion}
 use Rattle.numbers.specs.declared.Unit.{Unit as Measure}
 use Rattle.numbers.specs.declared.Unit.TheVariants.{Count, Megawatt, Euro}
 use Rattle.numbers.specs.Printing.{shown}
 use Rattle.numbers.specs.Reading.{Answers}
+use Rattle.reading.specs.declared.output.NumberWord.{NumberWord}
+use Rattle.reading.specs.declared.output.NumberWord.TheVariants.{Plain, Amount, Flow, Price}
 
 -- a number as it is printed: its unit, whether its reader allows a sign, and its count of units
 pub record Number : Type 0 where
@@ -27,6 +29,12 @@ flow z = record { unit = Megawatt; signed = true; count = z }
 -- a limit or a price in euro
 abbrev pub price : ℤ → Number
 price z = record { unit = Euro; signed = true; count = z }
+
+abbrev pub number_of : NumberWord → Number
+number_of (Plain n) = plain n
+number_of (Amount q) = amount q
+number_of (Flow z) = flow z
+number_of (Price z) = price z
 
 -- a line as it is printed: its letter, and its numbers
 pub record Line : Type 0 where

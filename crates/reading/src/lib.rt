@@ -9,3 +9,4 @@ pub mod output;
 pub mod reader;
 #[cfg(test)]
 mod tests;
+pub mod text;

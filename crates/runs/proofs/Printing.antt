@@ -1,26 +1,34 @@
 -- What is printed line by line, put together.
-use Rattle.std.proofs.Common.{◌≡◌, ℕ, ◌+◌, ◌≤◌, Bool, true, false, List, [], ◌∷◌, ◌++◌, length, Some, None, Option, Decides, sym, refl, ap, ◌∙◌, subst, inl, inr, append_assoc, append-nil, arith}
+use Rattle.std.proofs.Common.{◌≡◌, ℕ, ◌+◌, ◌<◌, ◌≤◌, Bool, true, false, List, [], ◌∷◌, ◌++◌, map, length, Some, None, Ok, Err, Decides, Option, Result, sym, refl, ap, ◌∙◌, subst, inl, inr, append_assoc, append-nil, arith}
 use Rattle.std.proofs.lemmas.Bool.{true≢false}
 use Rattle.capacity.specs.Meaning.{Capacity}
 use Rattle.capacity.specs.Network.{Network, no_network}
+use Rattle.session.specs.Rounds.{Logged, Noted}
 use Rattle.session.specs.State.{State}
+use Rattle.events.specs.declared.calls.Call.{Call}
+use Rattle.events.specs.Events.{Answer, acceptance}
+use Rattle.events.specs.Performing.{Performed}
+use Rattle.reading.specs.declared.faults.WordFault.{WordFault}
 use Rattle.reading.specs.declared.reader.Reader.{Reader}
-use Rattle.reading.specs.Text.{words}
-use Rattle.reading.specs.Reading.{unread, ahead, below, words_of, Begun, NextLine}
-use Rattle.reading.specs.Output.{mark}
 use Rattle.reading.specs.Fields.{first_letter, after_letter, letter_below, LetterTaken, InLine}
-use Rattle.runs.specs.Lines as lines
-use Rattle.runs.specs.Lines.{Line, printed}
-use Rattle.runs.specs.Maps.{MapLine, map_printed, register_on}
-use Rattle.runs.specs.Runs.{CallLines, MapLines, Headed}
-use Rattle.runs.specs.Running.{FirstLine, HeaderRead, Allowing, Printed, MapsBelow, CallsBelow, TurnsBelow, MapLineRun, MapsRun, LineRun, CallsRun, ScriptRun}
-
-pub none_printed : (P : Allowing) (out : List ℕ) → Printed P P out out
-none_printed P out = ([], (sym (append-nil out), λ t more h. h))
-
-printed_on : (P Q R : Allowing) (a b c : List ℕ) → Printed P Q a b → Printed Q R b c → Printed P R a c
-printed_on P Q R a b c (x, (e, f)) (y, (g, h)) =
-    (x ++ y, (g ∙ rw (e, append_assoc), λ t more r. rw append_assoc (f t (y ++ more) (h t more r))))
+use Rattle.reading.specs.Output.{mark, mark_line, refusal_line}
+use Rattle.reading.specs.Printing.{Line, line_text, lines_text}
+use Rattle.reading.specs.Reading.{unread, ahead, below, words_of, Begun, NextLine}
+use Rattle.reading.specs.Sinks.{Whole}
+use Rattle.reading.proofs.Heard.{lines_text_append}
+use Rattle.reading.specs.Text.{words}
+use Rattle.lines.specs.declared.faults.LineFault.{LineFault}
+use Rattle.lines.specs.declared.faults.LineFault.TheVariants.{Word, Session}
+use Rattle.reading.specs.declared.faults.WordFault.TheVariants.{Form}
+use Rattle.reading.specs.Faults.{upward, word_number, word_place}
+use Rattle.lines.specs.Asking.{Asks, LineReadTo}
+use Rattle.runs.specs.declared.output.Printer.{Printer}
+use Rattle.runs.specs.Lines as outcome
+use Rattle.runs.specs.Lines.{Outcome, line_answer, LineComes, answer_line, printed, all_printed}
+use Rattle.runs.specs.Maps.{Linked, MapLine, map_printed, register_on}
+use Rattle.runs.specs.Output.{trade_line}
+use Rattle.runs.specs.Runs.{CallLines, MapLines, Misformed, Headed, Prints}
+use Rattle.runs.specs.Running.{FirstLine, HeaderRead, trades, Allowing, Printed, MapsBelow, CallsBelow, TurnsBelow, TurnRun, LineRun, MapLineRun, MapsRun, CallsRun, ScriptRun}
 
 -- ---- the header
 
@@ -60,23 +68,15 @@ m_line s h t true l m ((line, (next, at_hand)), number, unread) k =
       one = k.counted 77 (k.is ∙ ap first_letter at ∙ letter) ∙ ap (λ n. n + 1) unread;
     }
 
--- one more M line, whose letter is read at t and whose words are read at u
-pub map_more : (P : Allowing) (m m' : Network) (s t u : Reader) (a b c : List ℕ) → Printed P (MapsBelow m s) a b → MLine s t → MapLineRun m t b m' c → InLine t u → Printed P (MapsBelow m' u) a c
-map_more P m m' s t u a b c so l (r, (h, p)) (ls, ns) =
-    let e : below s ≡ l.line ∷ below u = l.next ∙ ap (λ x. l.line ∷ x) (sym ls) in
-    let first : MapLine 1 m (ahead t) r m' = subst (λ (i : ℕ). MapLine i m (ahead t) r m') l.one h in
-    printed_on P (MapsBelow m s) (MapsBelow m' u) a b c so
-    (map_printed t.lines r, (p, λ x more k. rw (e, sym l.number) (inl (l.letter, (r, m', more, (subst (λ (x : List (List ℕ)). MapLine 1 m x r m') l.rest first, refl, rw ns at k))))))
-
 -- the map ends where another letter follows, or nothing
-map_ended : (m : Network) (n : ℕ) (ls : List (List ℕ)) (x : State) (more : List ℕ) → (letter_below ls ≡ Some 77 → ⊥) → CallLines (register_on m) n ls x more → MapLines m n ls x more
+map_ended : (m : Network) (n : ℕ) (ls : List (List ℕ)) (x : State) (more : List Line) → (letter_below ls ≡ Some 77 → ⊥) → CallLines (register_on m) n ls x more → MapLines m n ls x more
 map_ended m n [] x more other h = h
 map_ended m n (l ∷ ls) x more other h = inr (other, h)
 
-pub maps_done : (P : Allowing) (m : Network) (s : Reader) (a b : List ℕ) → Printed P (MapsBelow m s) a b → (letter_below (below s) ≡ Some 77 → ⊥) → Printed P (CallsBelow (register_on m) s) a b
-maps_done P m s a b (x, (e, f)) other = (x, (e, λ u more h. f u more (map_ended m (s.lines + 1) (below s) u more other h)))
-
--- ---- the calls
+-- the last line that is printed for an outcome
+pub ends_with : (n p i r : ℕ) (o : Outcome) (s t : State) (ws : List (List ℕ)) → LineComes p i s ws o t → r ≡ length t.book → printed n o ≡ map trade_line (trades o) ++ answer_line n (line_answer o) r ∷ []
+ends_with n p i r (outcome.unread e) s t ws h rests = refl
+ends_with n p i r (outcome.turn k a xs q) s t ws h rests = ap (λ (j : ℕ). map trade_line xs ++ answer_line n (line_answer (outcome.turn k a xs q)) j ∷ []) (h.2 ∙ sym rests)
 
 -- The line after the one at hand at s is at hand at t and carried out at u.
 pub record OneLine (s t u : Reader) : Type 0 where
@@ -97,35 +97,136 @@ one_line s t u line (ls, ns) = record {
   stays = ns;
 }
 
--- one more line of calls, at hand at t and carried out at u
-pub line_more : (P : Allowing) (x y : State) (s t u : Reader) (a b c : List ℕ) → Printed P (TurnsBelow x s) a b → OneLine s t u → LineRun x t b y c → Printed P (TurnsBelow y u) a c
-line_more P x y s t u a b c so one (o, (h, p)) =
-    printed_on P (TurnsBelow x s) (TurnsBelow y u) a b c so (
-      printed t.lines o,
-      (
-        p,
-        λ z more k. rw (one.next, sym one.number) (record {
-          outcomes = o ∷ k.outcomes;
-          each = (y, subst (λ (z : List (List ℕ)). Line x z o y) one.all h, k.each);
-          text = ap (λ z. printed t.lines o ++ z) (k.text ∙ ap (λ (i : ℕ). lines.all_printed (i + 1) k.outcomes) one.stays);
-        }),
-      ),
-    )
-
-pub lines_done : (P : Allowing) (x : State) (s t : Reader) (a b : List ℕ) → Printed P (TurnsBelow x s) a b → NextLine s false t → (text : List ℕ) × ((b ≡ a ++ text) × P x text)
-lines_done P x s t a b (text, (e, f)) (none, kept) =
-    (text, (e, rw append-nil at (f x [] (rw none (record { outcomes = []; each = (refl, refl); text = refl })))))
-
--- ---- the script
-
-headed : (ls ls' : List (List ℕ)) (x : State) (out : List ℕ) → FirstLine ls true ls' → MapLines no_network 2 ls' x out → Headed ls (Some x) out
+headed : (ls ls' : List (List ℕ)) (x : State) (out : List Line) → FirstLine ls true ls' → MapLines no_network 2 ls' x out → Headed ls (Some x) out
 headed [] ls' x out h k = absurd h
 headed (l ∷ ls) ls' x out h k = inl (h.0, (x, (refl, subst (λ (z : List (List ℕ)). MapLines no_network 2 z x out) h.1 k)))
 
--- a script that is not too long, with its header read at h, its map at t, and its calls after that
-pub script_run : (script : List ℕ) (s h t : Reader) (m : Network) (register : Capacity) (x : State) (a b c : List ℕ) → length script ≤ 65536 → Begun script s → HeaderRead s true h → MapsRun h a m t b → register ≡ register_on m → CallsRun register t b x c → ScriptRun script a (Some x) c
-script_run script s h t m register x a b c short begun (first, n) (y, (e, f)) on (z, (g, k)) =
-    let two : h.lines + 1 ≡ 2 = omega (arith, begun.no_line) in
-    let calls : CallsBelow (register_on m) t x z = subst (λ (r : Capacity). CallsBelow r t x z) on k in
-    let maps : MapLines no_network 2 (below h) x (y ++ z) = subst (λ (i : ℕ). MapLines no_network i (below h) x (y ++ z)) two (f x z calls) in
-    (y ++ z, (g ∙ rw (e, append_assoc), inr (short, rw (sym (begun.all_below short)) (headed (below s) (below h) x (y ++ z) first maps))))
+misheaded : (ls : List (List ℕ)) (out : List Line) → FirstLine ls false [] → Misformed 1 None out → Headed ls None out
+misheaded [] out h k = k
+misheaded (l ∷ ls) out h k = inr (h, k)
+
+-- the line that refuses the form of a script as line n
+abbrev pub form_line : ℕ → Line
+form_line n = refusal_line n (word_number Form) (word_place Form)
+
+module _ {S : Type 0} (H : S → List ℕ → S → Type 0) (whole : Whole H) where
+  -- ---- what a sink hears
+
+  pub more_heard : (xs ys : List Line) (a b c : S) → H a (lines_text xs) b → H b (lines_text ys) c → H a (lines_text (xs ++ ys)) c
+  more_heard xs ys a b c f g = subst (λ (t : List ℕ). H a t c) (sym (lines_text_append xs ys)) (whole.joined a b c (lines_text xs) (lines_text ys) f g)
+
+  pub one_heard : (x : Line) (a b : S) → H a (line_text x) b → H a (lines_text (x ∷ [])) b
+  one_heard x a b h = subst (λ (t : List ℕ). H a t b) (sym (append-nil (line_text x))) h
+
+  -- what noting a trade makes of a printer
+  abbrev pub Notes : Printer S → Logged → Printer S → Type 0
+  Notes u x v = H u.sink (line_text (trade_line x)) v.sink
+
+  -- the trades of a turn are printed one after another
+  trades_heard : (xs : List Logged) (a b : Printer S) → Noted Notes a xs b → H a.sink (lines_text (map trade_line xs)) b.sink
+  trades_heard [] a b e = subst (λ (u : Printer S). H a.sink [] u.sink) (sym e) (whole.nothing a.sink)
+  trades_heard (x ∷ xs) a b (u, one, more) = whole.joined a.sink u.sink b.sink (line_text (trade_line x)) (lines_text (map trade_line xs)) one (trades_heard xs u b more)
+
+  -- ---- one line
+
+  pub turn_run : (s t : State) (p : ℕ) (r r' : Reader) (k : Call) (a : Answer) (answer : Result (Unit {0}) LineFault) (before after : Printer S)
+      → answer ≡ upward Session (acceptance a) → Asks r.words (ahead r) (Ok k) → LineReadTo r (Ok k) r'
+      → Performed (λ (u : Printer S) e (v : Printer S). v ≡ u) Notes s p k before a after t
+      → TurnRun H s p r before.sink answer t r' after.sink
+  turn_run s t p r r' k a answer before after is asks read did = record {
+    outcome = outcome.turn k a did.trades (length t.book);
+    comes = (asks, did.turn, refl);
+    read = read;
+    answered = is;
+    heard = trades_heard did.trades before after (subst (λ (u : Printer S). Noted Notes u did.trades after) did.call_noted did.trades_noted);
+  }
+
+  pub unread_run : (s : State) (p : ℕ) (r r' : Reader) (e : WordFault) (fault : LineFault) (before : S)
+      → fault ≡ Word e → Asks r.words (ahead r) (Err e) → LineReadTo r (Err e) r' → TurnRun H s p r before (Err fault) s r' before
+  unread_run s p r r' e fault before is asks read = record {
+    outcome = outcome.unread e;
+    comes = (asks, refl);
+    read = read;
+    answered = ap Err is;
+    heard = whole.nothing before;
+  }
+
+  pub line_run : (s t : State) (p n q : ℕ) (r r' : Reader) (answer : Result (Unit {0}) LineFault) (a b c : S)
+      → TurnRun H s p r a answer t r' b → n ≡ r.lines → q ≡ length t.book → H b (line_text (answer_line n answer q)) c → LineRun H s p r a answer t r' c
+  line_run s t p n q r r' answer a b c turn number rests last =
+      let o = turn.outcome in
+      let ending = answer_line r.lines (line_answer o) q in
+      let ended : H b (line_text ending) c = rw (number, turn.answered) at last in
+      record {
+        outcome = o;
+        comes = turn.comes;
+        read = turn.read;
+        answered = turn.answered;
+        heard = subst (λ (out : List Line). H a (lines_text out) c) (sym (ends_with r.lines p r.words q o s t (ahead r) turn.comes rests))
+            (more_heard (map trade_line (trades o)) (ending ∷ []) a b c turn.heard (one_heard ending b c ended));
+      }
+
+  -- ---- one line after another
+
+  pub none_printed : (P : Allowing) (a : S) → Printed H P P a a
+  none_printed P a = ([], (whole.nothing a, λ t more h. h))
+
+  printed_on : (P Q R : Allowing) (a b c : S) → Printed H P Q a b → Printed H Q R b c → Printed H P R a c
+  printed_on P Q R a b c (x, (e, f)) (y, (g, h)) =
+      (x ++ y, (more_heard x y a b c e g, λ t more r. rw append_assoc (f t (y ++ more) (h t more r))))
+
+  -- one more M line, whose letter is read at t and whose words are read at u
+  pub map_more : (P : Allowing) (m m' : Network) (s t u : Reader) (r : Linked) (a b c : S) → Printed H P (MapsBelow m s) a b → MLine s t → MapLineRun H m t b r m' c → InLine t u → Printed H P (MapsBelow m' u) a c
+  map_more P m m' s t u r a b c so l (h, p) (ls, ns) =
+      let e : below s ≡ l.line ∷ below u = l.next ∙ ap (λ x. l.line ∷ x) (sym ls) in
+      let first : MapLine 1 m (ahead t) r m' = subst (λ (i : ℕ). MapLine i m (ahead t) r m') l.one h in
+      printed_on P (MapsBelow m s) (MapsBelow m' u) a b c so
+      (map_printed t.lines r, (p, λ x more k. rw (e, sym l.number) (inl (l.letter, (r, m', more, (subst (λ (x : List (List ℕ)). MapLine 1 m x r m') l.rest first, refl, rw ns at k))))))
+
+  pub maps_done : (P : Allowing) (m : Network) (s : Reader) (a b : S) → Printed H P (MapsBelow m s) a b → (letter_below (below s) ≡ Some 77 → ⊥) → Printed H P (CallsBelow (register_on m) s) a b
+  maps_done P m s a b (x, (e, f)) other = (x, (e, λ u more h. f u more (map_ended m (s.lines + 1) (below s) u more other h)))
+
+  -- one more line of calls, at hand at t and carried out at u
+  pub line_more : (P : Allowing) (x y : State) (p : ℕ) (s t u : Reader) (answer : Result (Unit {0}) LineFault) (a b c : S) → Printed H P (TurnsBelow x s) a b → p ≡ 1 → OneLine s t u → LineRun H x p t b answer y u c → Printed H P (TurnsBelow y u) a c
+  line_more P x y p s t u answer a b c so number one run =
+      let o = run.outcome in
+      let comes : LineComes 1 0 x (words one.line) o y =
+      subst (λ (z : List (List ℕ)). LineComes 1 0 x z o y) one.all (subst (λ (i : ℕ). LineComes 1 i x (ahead t) o y) one.unread (subst (λ (q : ℕ). LineComes q t.words x (ahead t) o y) number run.comes)) in
+      printed_on P (TurnsBelow x s) (TurnsBelow y u) a b c so (
+        printed t.lines o,
+        (
+          run.heard,
+          λ z more k. rw (one.next, sym one.number) (record {
+            outcomes = o ∷ k.outcomes;
+            each = (y, comes, k.each);
+            printed = ap (λ z. printed t.lines o ++ z) (k.printed ∙ ap (λ (i : ℕ). all_printed (i + 1) k.outcomes) one.stays);
+          }),
+        ),
+      )
+
+  pub lines_done : (P : Allowing) (x : State) (s t : Reader) (a b : S) → Printed H P (TurnsBelow x s) a b → NextLine s false t → (out : List Line) × (H a (lines_text out) b × P x out)
+  lines_done P x s t a b (out, (e, f)) (none, kept) =
+      (out, (e, rw append-nil at (f x [] (rw none (record { outcomes = []; each = (refl, refl); printed = refl })))))
+
+  -- ---- the script
+
+  -- a script that is not too long, with its header read at h, its map at t, and its calls after that
+  pub script_run : (script : List ℕ) (s h t : Reader) (m : Network) (register : Capacity) (x : State) (a b c : S) → length script ≤ 65536 → Begun script s → HeaderRead s true h → MapsRun H h a m t b → register ≡ register_on m → CallsRun H register t b x c → ScriptRun H script a (Some x) c
+  script_run script s h t m register x a b c short begun (first, n) (y, (e, f)) on (z, (g, k)) =
+      let two : h.lines + 1 ≡ 2 = omega (arith, begun.no_line) in
+      let calls : CallsBelow (register_on m) t x z = subst (λ (r : Capacity). CallsBelow r t x z) on k in
+      let maps : MapLines no_network 2 (below h) x (y ++ z) = subst (λ (i : ℕ). MapLines no_network i (below h) x (y ++ z)) two (f x z calls) in
+      (y ++ z, (more_heard y z a b c e g, inr (short, rw (sym (begun.all_below short)) (headed (below s) (below h) x (y ++ z) first maps))))
+
+  -- one that is too long is refused, and so is one with another first line, or with none
+  pub too_long_run : (script : List ℕ) (a b : S) → 65536 < length script → H a (line_text (form_line 0)) b → ScriptRun H script a None b
+  too_long_run script a b long h = (form_line 0 ∷ [], (one_heard (form_line 0) a b h, inl (long, (refl, refl))))
+
+  pub no_header_run : (script : List ℕ) (s t : Reader) (a b : S) → length script ≤ 65536 → Begun script s → HeaderRead s false t → H a (line_text (form_line 1)) b → ScriptRun H script a None b
+  no_header_run script s t a b short begun first h =
+      let out = form_line 1 ∷ [] in
+      (out, (one_heard (form_line 1) a b h, inr (short, subst (λ (ls : List (List ℕ)). Headed ls None out) (begun.all_below short) (misheaded (below s) out first (refl, refl)))))
+
+  -- mark and version, and then what the lines of the script come to
+  pub printed_run : (script : List ℕ) (t : Option State) (a b c : S) → H a (line_text mark_line) b → ScriptRun H script b t c → (out : List Line) × (Prints script t out × H a (lines_text out) c)
+  printed_run script t a b c marked (rest, (heard, comes)) = (mark_line ∷ rest, ((rest, (refl, comes)), whole.joined a b c (line_text mark_line) (lines_text rest) marked heard))

@@ -1,17 +1,20 @@
 -- What a line of calls comes to on a session, what is printed of it, and the events that it adds.
-use Rattle.std.specs.Prelude.{◌≡◌, ℕ, ◌+◌, List, [], ◌∷◌, ◌++◌, length, Ok, Err}
+use Rattle.std.specs.Prelude.{◌≡◌, ℕ, ◌+◌, List, [], ◌∷◌, ◌++◌, map, length, Ok, Err, Result}
 use Rattle.session.specs.Rounds.{Logged}
 use Rattle.session.specs.State.{State}
 use Rattle.events.specs.declared.calls.Call.{Call}
 use Rattle.events.specs.declared.events.Event.{Event}
-use Rattle.events.specs.Events.{Answer}
+use Rattle.events.specs.Events.{Answer, acceptance}
 use Rattle.events.specs.Turns.{Turned, with_turn}
 use Rattle.reading.specs.declared.faults.WordFault.{WordFault}
+use Rattle.reading.specs.Faults.{upward}
 use Rattle.reading.specs.Output.{quiet_line}
+use Rattle.reading.specs.Printing.{Line}
 use Rattle.reading.specs.Text.{words}
+use Rattle.lines.specs.declared.faults.LineFault.{LineFault}
 use Rattle.lines.specs.declared.faults.LineFault.TheVariants.{Word, Session}
 use Rattle.lines.specs.Asking.{Asks}
-use Rattle.runs.specs.Output.{refused_line, trade_lines}
+use Rattle.runs.specs.Output.{refused_line, trade_line}
 
 -- the number of the session that a script runs
 abbrev pub session_number : ℕ
@@ -22,28 +25,39 @@ pub data Outcome : Type 0 where
   unread : WordFault → Outcome
   turn : Call → Answer → List Logged → ℕ → Outcome
 
--- the line with these words comes to this at s, and t stands after it
-abbrev pub Line : State → List (List ℕ) → Outcome → State → Type 0
-Line s ws (unread e) t = Asks 0 ws (Err e) × (t ≡ s)
-Line s ws (turn k a xs r) t = Asks 0 ws (Ok k) × Turned s session_number k a xs t × (r ≡ length t.book)
+-- what was read: a fault of the line's words, or the call that the line asks for
+abbrev pub asked : Outcome → Result Call WordFault
+asked (unread e) = Err e
+asked (turn k a xs r) = Ok k
 
-abbrev pub Lines : State → List (List ℕ) → List Outcome → State → Type 0
-Lines s [] os t = (os ≡ []) × (t ≡ s)
-Lines s (l ∷ ls) [] t = ⊥
-Lines s (l ∷ ls) (o ∷ os) t = (u : State) × Line s (words l) o u × Lines u ls os t
+-- what the line is answered: accepted, or its fault whole
+abbrev pub line_answer : Outcome → Result (Unit {0}) LineFault
+line_answer (unread e) = Err (Word e)
+line_answer (turn k a xs r) = upward Session (acceptance a)
 
--- an accepted call ends with the orders resting
-abbrev pub answer_line : ℕ → Answer → ℕ → List ℕ
-answer_line n (Err f) r = refused_line n (Session f)
-answer_line n (Ok k) r = quiet_line r
+-- with a pass of number p the words ws of a line, with i before them, come to this at s, and t stands after it
+abbrev pub LineComes : ℕ → ℕ → State → List (List ℕ) → Outcome → State → Type 0
+LineComes p i s ws (unread e) t = Asks i ws (Err e) × (t ≡ s)
+LineComes p i s ws (turn k a xs r) t = Asks i ws (Ok k) × Turned s p k a xs t × (r ≡ length t.book)
+
+-- the lines of a script
+abbrev pub LinesCome : State → List (List ℕ) → List Outcome → State → Type 0
+LinesCome s [] os t = (os ≡ []) × (t ≡ s)
+LinesCome s (l ∷ ls) [] t = ⊥
+LinesCome s (l ∷ ls) (o ∷ os) t = (u : State) × LineComes session_number 0 s (words l) o u × LinesCome u ls os t
+
+-- the line n of a script ends with this: where it is accepted, the orders resting
+abbrev pub answer_line : ℕ → Result (Unit {0}) LineFault → ℕ → Line
+answer_line n (Err f) r = refused_line n f
+answer_line n (Ok x) r = quiet_line r
 
 -- what is printed for line n
-abbrev pub printed : ℕ → Outcome → List ℕ
-printed n (unread e) = refused_line n (Word e)
-printed n (turn k a xs r) = trade_lines xs ++ answer_line n a r
+abbrev pub printed : ℕ → Outcome → List Line
+printed n (unread e) = refused_line n (Word e) ∷ []
+printed n (turn k a xs r) = map trade_line xs ++ answer_line n (upward Session (acceptance a)) r ∷ []
 
 -- for the lines from number n on
-abbrev pub all_printed : ℕ → List Outcome → List ℕ
+abbrev pub all_printed : ℕ → List Outcome → List Line
 all_printed n [] = []
 all_printed n (o ∷ os) = printed n o ++ all_printed (n + 1) os
 

@@ -1,5 +1,5 @@
 -- What an M line comes to, and what is printed of it.
-use Rattle.std.specs.Prelude.{◌≡◌, ℕ, ◌⊎◌, List, [], Ok, Err, Result}
+use Rattle.std.specs.Prelude.{◌≡◌, ℕ, ◌⊎◌, List, [], ◌∷◌, Ok, Err, Result}
 use Rattle.capacity.specs.declared.faults.MapFault.{MapFault}
 use Rattle.capacity.specs.Faults.{map_told}
 use Rattle.capacity.specs.Meaning.{Capacity, reserved}
@@ -13,6 +13,7 @@ use Rattle.reading.specs.declared.links.Link.{Link}
 use Rattle.reading.specs.Faults.{link_number, link_place, upward}
 use Rattle.reading.specs.Making.{MakesOfCounts, link_fields, link}
 use Rattle.reading.specs.Output.{refusal_line}
+use Rattle.reading.specs.Printing.{Line}
 
 -- what an M line comes to
 abbrev pub Linked : Type 0
@@ -32,9 +33,9 @@ MapLine i m ws r m' =
     ⊎ ((x : Link) × (MakesOfCounts i link_fields link ws (Ok x) × Connects m x r m'))
 
 -- a refused M line is printed; an accepted one prints nothing
-abbrev pub map_printed : ℕ → Linked → List ℕ
+abbrev pub map_printed : ℕ → Linked → List Line
 map_printed n (Ok x) = []
-map_printed n (Err e) = refusal_line n (link_number e) (link_place e)
+map_printed n (Err e) = refusal_line n (link_number e) (link_place e) ∷ []
 
 -- a reserve layer over a full table with all at nought
 abbrev pub register_on : Network → Capacity

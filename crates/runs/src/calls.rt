@@ -1,49 +1,28 @@
 // The lines of calls of a script, each a turn of one session.
-ghost use Rattle.std.specs.Prelude.{◌≡◌, ℕ, List, ◌++◌, IfOk, string_bytes, OnOk};
-ghost use Rattle.session.specs.Rounds.{Logged};
+ghost use Rattle.std.specs.Prelude.{◌≡◌};
 ghost use Rattle.session.specs.State.{state};
 ghost use Rattle.events.specs.Events.{acceptance};
-ghost use Rattle.events.specs.Turns.{Turned};
 ghost use Rattle.lines.specs.declared.faults.LineFault.TheVariants.{Session as ASession};
 ghost use Rattle.reading.specs.Faults.{upward};
 ghost use Rattle.reading.specs.Fields.{InLine};
+ghost use Rattle.reading.specs.Printing.{line_text};
+ghost use Rattle.reading.specs.Reading.{ahead};
 ghost use Rattle.runs.specs.Lines.{answer_line};
-ghost use Rattle.runs.specs.Output.{trade_lines};
-ghost use Rattle.runs.specs.Running.{LineRun, CallsRun};
+ghost use Rattle.runs.specs.Running.{OneOutcome, LineRun, TurnRun, CallsRun};
 
-use crate::logs::TradeText;
+use crate::output::Printer;
 use capacity::register::Register;
-use events::calls::Call;
 use events::events::Answer;
 use events::performing::perform;
 use lines::asking::call;
 use lines::faults::LineFault;
 use reading::output::{quiet, refuse};
 use reading::reader::Reader;
+use reading::text::TextSink;
 use session::passes::QuietPass;
 use session::state::Session;
-use std::alloc::AllocError;
 
 const SESSION_NUMBER: u32 = 1;
-
-// Makes a call, runs its round to its end and prints its trades.
-// The parameters are those of `perform`, with the text.
-fn take_turn<R: Register>(
-    session: &mut Session<R>,
-    pass: QuietPass,
-    call: &Call,
-    out: &mut String,
-) -> Result<(Answer, QuietPass), AllocError>
-    ensures { IfOk result (λ x. (xs : List Logged) × (Turned (state R.Register.meaning session.old) pass.number call.now x.0 xs (state R.Register.meaning session.new) × (string_bytes out.new ≡ string_bytes out.old ++ trade_lines xs) × (x.1.number ≡ pass.number))) }
-{
-    let mut log = TradeText {
-        text: Ok(String::new(*out.allocator())),
-    };
-    let (answer, pass) = perform(session, pass, call, &mut log);
-    let text = log.text?;
-    out.push_str(text.as_str())?;
-    Ok((answer, pass))
-}
 
 // Whether the call was accepted, the session's fault carried upward whole.
 fn accepted(answer: Answer) -> Result<(), LineFault>
@@ -53,61 +32,72 @@ fn accepted(answer: Answer) -> Result<(), LineFault>
     Ok(())
 }
 
-// Ends an accepted line with the orders resting, and a refused one with its fault.
-fn print_answer(
-    out: &mut String,
-    line: u32,
-    answer: Answer,
-    resting: usize,
-) -> Result<(), AllocError>
-    ensures { OnOk result (string_bytes out.new ≡ string_bytes out.old ++ answer_line line answer resting) }
-{
-    match accepted(answer) {
-        Ok(()) => quiet(out, resting),
-        Err(fault) => refuse(out, line, &fault),
-    }
-}
-
-// Runs the line at hand on a session.
-// Reader and text stay two parameters here and below: lines are read with the one and printed with the other alone,
-// so a struct of both would be borrowed apart in each call.
-fn run_line<R: Register>(
+// Makes the call that the line asks for, runs its round to its end and prints its trades.
+// The parameters are those of `perform`, with the reader.
+fn take_turn<R: Register, S: TextSink>(
     session: &mut Session<R>,
     pass: QuietPass,
     reader: &mut Reader,
-    out: &mut String,
-) -> Result<QuietPass, AllocError>
-    requires words_value { reader.old.words ≡ 0 }
-    requires number_value { pass.number ≡ 1 }
-    ensures line { IfOk result (λ p. LineRun (state R.Register.meaning session.old) reader.old (string_bytes out.old) (state R.Register.meaning session.new) (string_bytes out.new) × (p.number ≡ 1)) }
+    out: &mut Printer<S>,
+) -> (Result<(), LineFault>, QuietPass)
+    ensures turn { let s = state R.Register.meaning session.old in let t = state R.Register.meaning session.new in
+        TurnRun S.TextSink.hears s pass.number reader.old out.old.sink result.0 t reader.new out.new.sink }
     ensures stays { InLine reader.old reader.new }
+    ensures pass { result.1.number ≡ pass.number }
 {
-    let line = reader.line_number();
     match call(reader) {
         Ok(call) => {
-            let turn = take_turn(session, pass, &call, out)?;
-            let (answer, pass) = turn;
-            print_answer(out, line, answer, session.resting())?;
-            Ok(pass)
+            let (answer, pass) = perform(session, pass, &call, out);
+            (accepted(answer), pass)
         }
-        Err(fault) => {
-            refuse(out, line, &LineFault::from(fault))?;
-            Ok(pass)
-        }
+        Err(fault) => (Err(LineFault::from(fault)), pass),
     }
 }
 
+// Ends an accepted line with the orders resting, and a refused one with its fault.
+fn print_answer<S: TextSink>(out: &mut S, line: u32, answer: &Result<(), LineFault>, resting: u32)
+    ensures { S.TextSink.hears out.old (line_text (answer_line line answer.now resting)) out.new }
+{
+    match answer {
+        Ok(()) => quiet(out, resting),
+        Err(fault) => refuse(out, line, fault),
+    }
+}
+
+/// Runs the words that are left of the line at hand, its letter first, on a session: makes the call that they ask for, runs its round
+/// to the end and prints its trades, and then `Q` or `R`. Answers the fault that is printed, whole; a refused line changes nothing.
+pub fn run_line<R: Register, S: TextSink>(
+    session: &mut Session<R>,
+    pass: QuietPass,
+    reader: &mut Reader,
+    out: &mut Printer<S>,
+) -> (Result<(), LineFault>, QuietPass)
+    ensures line { let s = state R.Register.meaning session.old in let t = state R.Register.meaning session.new in
+        LineRun S.TextSink.hears s pass.number reader.old out.old.sink result.0 t reader.new out.new.sink }
+    ensures only { OneOutcome pass.number reader.old.words (state R.Register.meaning session.old) (ahead reader.old) }
+    ensures stays { InLine reader.old reader.new }
+    ensures pass { result.1.number ≡ pass.number }
+{
+    let line = reader.line_number();
+    let (answer, pass) = take_turn(session, pass, reader, out);
+    print_answer(&mut out.sink, line, &answer, session.resting());
+    (answer, pass)
+}
+
 // Runs the lines that are left on a session begun over the register, and gives that session.
-pub(crate) fn run_calls<R: Register + Drop>(
+pub(crate) fn run_calls<R: Register + Drop, S: TextSink>(
     register: R,
     reader: &mut Reader,
-    out: &mut String,
-) -> Result<Session<R>, AllocError>
-    ensures { IfOk result (λ session. CallsRun (R.Register.meaning register) reader.old (string_bytes out.old) (state R.Register.meaning session) (string_bytes out.new)) }
+    out: &mut Printer<S>,
+) -> Session<R>
+    ensures { let t = state R.Register.meaning result in
+        CallsRun S.TextSink.hears (R.Register.meaning register) reader.old out.old.sink t out.new.sink }
 {
     let (mut session, mut pass) = Session::begin(SESSION_NUMBER, register);
     while reader.next_line() {
-        pass = run_line(&mut session, pass, reader, out)?;
+        // the fault is printed, and the next line is run all the same
+        let (_, quiet) = run_line(&mut session, pass, reader, out);
+        pass = quiet;
     }
-    Ok(session)
+    session
 }

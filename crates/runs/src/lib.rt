@@ -1,10 +1,9 @@
 // Scripts of trading sessions, run line by line.
 #![tactic(auto)]
 
-mod calls;
-mod logs;
-mod maps;
-mod output;
+pub mod calls;
+pub mod maps;
+pub mod output;
 pub mod run;
 #[cfg(test)]
 mod tests;

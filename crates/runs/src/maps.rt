@@ -1,20 +1,22 @@
 // The M lines of a script, and the map that they make.
-ghost use Rattle.std.specs.Prelude.{◌≡◌, IfOk, string_bytes, OnOk};
+ghost use Rattle.std.specs.Prelude.{◌≡◌};
 ghost use Rattle.capacity.specs.Shapes.{network_of};
 ghost use Rattle.reading.specs.Fields.{InLine};
 ghost use Rattle.reading.specs.Reading.{ahead};
 ghost use Rattle.runs.specs.Maps.{MapLine};
-ghost use Rattle.runs.specs.Running.{MapLineRun, MapsRun};
+ghost use Rattle.runs.specs.Running.{LinkReadTo, OneLink, MapLineRun, MapsRun};
 
+use crate::output::Printer;
 use capacity::map::ConnectorMap;
 use reading::faults::LinkFault;
 use reading::output::refuse;
 use reading::reader::Reader;
-use std::alloc::AllocError;
+use reading::text::TextSink;
 
 // Reads an M line, whose letter is read, and makes its connector.
 fn map_line(map: &mut ConnectorMap, reader: &mut Reader) -> Result<(), LinkFault>
     ensures line { MapLine reader.old.words (network_of map.old) (ahead reader.old) result (network_of map.new) }
+    ensures reads { LinkReadTo reader.old result reader.new }
     ensures stays { InLine reader.old reader.new }
 {
     let link = reader.link()?;
@@ -22,30 +24,36 @@ fn map_line(map: &mut ConnectorMap, reader: &mut Reader) -> Result<(), LinkFault
     Ok(())
 }
 
-// Runs an M line, whose letter is read.
-fn run_map_line(
+/// Runs the words that are left of an M line, its letter read: makes the connector that they name, or prints `R`.
+/// Answers the fault that is printed, whole; a refused line changes nothing.
+pub fn run_map_line<S: TextSink>(
     map: &mut ConnectorMap,
     reader: &mut Reader,
-    out: &mut String,
-) -> Result<(), AllocError>
-    ensures line { OnOk result (MapLineRun (network_of map.old) reader.old (string_bytes out.old) (network_of map.new) (string_bytes out.new)) }
+    out: &mut Printer<S>,
+) -> Result<(), LinkFault>
+    ensures line { let m = network_of map.old in let m' = network_of map.new in
+        MapLineRun S.TextSink.hears m reader.old out.old.sink result m' out.new.sink }
+    ensures reads { LinkReadTo reader.old result reader.new }
+    ensures only { OneLink reader.old.words (network_of map.old) (ahead reader.old) }
     ensures stays { InLine reader.old reader.new }
 {
-    if let Err(fault) = map_line(map, reader) {
-        refuse(out, reader.line_number(), &fault)?;
+    let answer = map_line(map, reader);
+    if let Err(fault) = &answer {
+        refuse(&mut out.sink, reader.line_number(), fault);
     }
-    Ok(())
+    answer
 }
 
 // Runs the M lines, and gives the map that they make.
-pub(crate) fn run_map(reader: &mut Reader, out: &mut String) -> Result<ConnectorMap, AllocError>
-    ensures { IfOk result (λ map. MapsRun reader.old (string_bytes out.old) (network_of map) reader.new (string_bytes out.new)) }
+pub(crate) fn run_map<S: TextSink>(reader: &mut Reader, out: &mut Printer<S>) -> ConnectorMap
+    ensures { MapsRun S.TextSink.hears reader.old out.old.sink (network_of result) reader.new out.new.sink }
 {
     let mut map = ConnectorMap::new();
     while let Some('M') = reader.letter_ahead() {
         reader.next_line();
         reader.letter();
-        run_map_line(&mut map, reader, out)?;
+        // the fault is printed, and the next line is run all the same
+        let _ = run_map_line(&mut map, reader, out);
     }
-    Ok(map)
+    map
 }

@@ -1,53 +1,40 @@
-// The lines that a run prints of trades.
-ghost use Rattle.std.specs.Prelude.{◌≡◌, ◌++◌, string_bytes, OnOk};
-ghost use Rattle.runs.specs.Output.{deal_text, areas_text, trade_line};
+// A sink of text in which each trade of a turn is printed.
+ghost use Rattle.std.specs.Prelude.{◌≡◌};
+ghost use Rattle.reading.specs.Printing.{line_text};
+ghost use Rattle.runs.specs.Output.{trade_line};
 
-use numbers::{Unit, show};
-use std::alloc::AllocError;
-use std::fmt::Write;
+use events::events::Event;
+use events::performing::CallLog;
+use reading::output::{NumberWord, print_route_line};
+use reading::text::TextSink;
+use session::finishing::TradeLog;
 use trades::Trade;
 
-// Prints all of a trade but its route.
-// Functions and no Display, as in `numbers`: price and quantity are printed with a unit that the trade does not hold.
-fn print_deal(
-    out: &mut String,
-    contract: u32,
-    buy: u32,
-    sell: u32,
-    price: &str,
-    quantity: &str,
-) -> Result<(), AllocError>
-    ensures { OnOk result (string_bytes out.new ≡ string_bytes out.old ++ deal_text contract buy sell price.now quantity.now) }
-{
-    write!(out, "T {contract} {buy} {sell} {price} {quantity}")
+/// A sink, as the log of turns. It holds the sink by value: of one that is only lent, a log could not say what it is afterwards.
+#[derive(Drop)]
+pub struct Printer<S> {
+    pub sink: S,
 }
 
-// Prints the areas of a route.
-fn print_areas(out: &mut String, route: &[u32]) -> Result<(), AllocError>
-    ensures { OnOk result (string_bytes out.new ≡ string_bytes out.old ++ areas_text route.now) }
-{
-    for area in route.iter() {
-        write!(out, " {area}")?;
+impl<S: TextSink> TradeLog for Printer<S> {
+    // the trade's line is printed
+    ghost notes = { λ a x b. S.TextSink.hears a.sink (line_text (trade_line x)) b.sink };
+
+    fn note(&mut self, trade: &Trade, route: &[u32]) {
+        let deal = [
+            NumberWord::Plain(trade.contract),
+            NumberWord::Plain(trade.buy),
+            NumberWord::Plain(trade.sell),
+            NumberWord::Price(trade.price),
+            NumberWord::Amount(trade.quantity),
+        ];
+        print_route_line(&mut self.sink, b"T", &deal, route);
     }
-    Ok(())
 }
 
-// Prints a trade and the areas of its route.
-pub(crate) fn print_trade(out: &mut String, trade: &Trade, route: &[u32]) -> Result<(), AllocError>
-    ensures { OnOk result (string_bytes out.new ≡ string_bytes out.old ++ trade_line (record { trade = trade.now; route = route.now })) }
-{
-    let heap = *out.allocator();
-    let price = show(heap, trade.price, Unit::Euro)?;
-    let quantity = show(heap, trade.quantity, Unit::Megawatt)?;
-    print_deal(
-        out,
-        trade.contract,
-        trade.buy,
-        trade.sell,
-        price.as_str(),
-        quantity.as_str(),
-    )?;
-    print_areas(out, route)?;
-    out.push_str("\n")?;
-    Ok(())
+impl<S: TextSink> CallLog for Printer<S> {
+    // a call is not printed before its trades
+    ghost calls = { λ a e b. b ≡ a };
+
+    fn note_call(&mut self, _event: &Event) {}
 }

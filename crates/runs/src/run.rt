@@ -1,26 +1,29 @@
 // The run of a script: its header, its map, and then its calls on a session over the map's register.
-ghost use Rattle.std.specs.Prelude.{◌≡◌, IfOk, string_bytes};
+ghost use Rattle.std.specs.Prelude.{◌≡◌, List};
+ghost use Rattle.history.specs.Laws.{LawsHold, OneAnswer};
+ghost use Rattle.reading.specs.Printing.{Line, lines_text};
 ghost use Rattle.runs.specs.Running.{HeaderRead, ScriptRun};
-ghost use Rattle.runs.specs.Runs.{Prints, OnlyPrints, left};
+ghost use Rattle.runs.specs.Runs.{Prints, OnePrint, PrintsReadBack, left};
 
 use crate::calls::run_calls;
 use crate::maps::run_map;
+use crate::output::Printer;
 use capacity::reserve::Reserve;
 use capacity::table::FullTable;
 use reading::faults::WordFault;
-use reading::output::refuse;
+use reading::output::{print_mark, refuse};
 use reading::reader::Reader;
 use reading::reader::calls::SCRIPT_MOST;
+use reading::text::TextSink;
 use session::state::Session;
-use std::alloc::{AllocError, Global};
 
-// The session that a script runs.
+/// The session that a script runs.
 pub type Market = Session<Reserve<FullTable>>;
 
-// What a run prints, and the session that it leaves: none where the form of the script was wrong.
+/// The sink after a run, and the session that the run leaves: none where the form of the script was wrong.
 #[derive(Drop)]
-pub struct Ran {
-    pub output: String,
+pub struct Ran<S> {
+    pub output: S,
     pub session: Option<Market>,
 }
 
@@ -32,29 +35,35 @@ fn header(reader: &mut Reader) -> bool
 }
 
 // Runs a script, after mark and version are printed.
-fn run_script(script: &[u8], out: &mut String) -> Result<Option<Market>, AllocError>
-    ensures { IfOk result (λ session. ScriptRun script.now (string_bytes out.old) (left session) (string_bytes out.new)) }
+fn run_script<S: TextSink>(script: &[u8], out: &mut Printer<S>) -> Option<Market>
+    ensures { ScriptRun S.TextSink.hears script.now out.old.sink (left result) out.new.sink }
 {
     if script.len() > SCRIPT_MOST {
-        refuse(out, 0, &WordFault::Form)?;
-        return Ok(None);
+        refuse(&mut out.sink, 0, &WordFault::Form);
+        return None;
     }
     let mut reader = Reader::new(script);
     if !header(&mut reader) {
-        refuse(out, 1, &WordFault::Form)?;
-        return Ok(None);
+        refuse(&mut out.sink, 1, &WordFault::Form);
+        return None;
     }
-    let map = run_map(&mut reader, out)?;
-    let session = run_calls(map.into_register(), &mut reader, out)?;
-    Ok(Some(session))
+    let map = run_map(&mut reader, out);
+    let session = run_calls(map.into_register(), &mut reader, out);
+    Some(session)
 }
 
-// Runs a script on a session begun afresh.
-pub fn run(heap: Global, script: &[u8]) -> Result<Ran, AllocError>
-    ensures prints { IfOk result (λ ran. Prints script.now (left ran.session) (string_bytes ran.output)) }
-    ensures only { IfOk result (λ ran. OnlyPrints script.now (left ran.session) (string_bytes ran.output)) }
+/// Runs a script on a session begun afresh, and prints it into the sink.
+pub fn run<S: TextSink>(script: &[u8], out: S) -> Ran<S>
+    ensures prints { (lines : List Line)
+        × Prints script.now (left result.session) lines × S.TextSink.hears out (lines_text lines) result.output }
+    ensures only { OnePrint script.now }
+    ensures reads_back { PrintsReadBack script.now }
+    ensures laws { LawsHold }
+    ensures once { OneAnswer }
 {
-    let mut output = String::from_str(heap, "CTM 1\n")?;
-    let session = run_script(script, &mut output)?;
-    Ok(Ran { output, session })
+    let mut out = Printer { sink: out };
+    print_mark(&mut out.sink);
+    let session = run_script(script, &mut out);
+    let Printer { sink: output } = out;
+    Ran { output, session }
 }

@@ -1,5 +1,6 @@
 -- Lemmas on screens.
 mod Fitting
+mod Ranges
 mod Printing
 mod Areas
 mod Once

@@ -1,6 +1,9 @@
--- What a part of a screen adds to its text: for the contracts of its private functions.
-use Rattle.std.specs.Prelude.{◌≡◌, ℕ, List, ◌++◌}
+-- What a part of a screen is heard as: for the contracts of its private functions.
+use Rattle.std.specs.Prelude.{ℕ, List}
+use Rattle.std.specs.List.{AllByRecursion}
+use Rattle.reading.specs.Printing.{Line, lines_text, LineReadsBack}
 
--- a text of this form is added
-abbrev pub Adds : (List ℕ → Type 0) → List ℕ → List ℕ → Type 0
-Adds P before after = (text : List ℕ) × P text × (after ≡ before ++ text)
+-- lines of this form are heard, and no more, and each reads back
+abbrev pub HeardBack : {S : Type 0} → (S → List ℕ → S → Type 0) → (List Line → Type 0) → S → S → Type 0
+HeardBack hears Form before after =
+    (ls : List Line) × Form ls × AllByRecursion LineReadsBack ls × hears before (lines_text ls) after

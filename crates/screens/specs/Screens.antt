@@ -1,60 +1,65 @@
 -- What is printed of a contract: the lines of its views, each view as it ranks.
-use Rattle.std.specs.Prelude.{◌≡◌, ℕ, zero, suc, Bool, List, [], ◌++◌, Ok, Err, Result, String, string_bytes, flat_map}
+use Rattle.std.specs.Prelude.{◌≡◌, ℕ, zero, suc, Bool, List, [], ◌++◌, map, Ok, Err, Result}
+use Rattle.std.specs.List.{AllByRecursion}
 use Rattle.book.specs.declared.rows.Side.{Side}
 use Rattle.book.specs.declared.rows.Side.TheVariants.{Buy, Sell}
 use Rattle.capacity.specs.Tests.{answered}
 use Rattle.ranking.specs.Ranking.{Ranking}
-use Rattle.session.specs.Calls.{Test}
+use Rattle.reading.specs.Printing.{Line, lines_text, LineReadsBack}
 use Rattle.session.specs.Faults.{told}
 use Rattle.session.specs.State.{State}
+use Rattle.session.specs.declared.faults.SessionFault.{SessionFault}
 use Rattle.views.specs.Books.{BookLines}
 use Rattle.views.specs.Capacities.{CapacityLines, contract_tests}
 use Rattle.views.specs.Ranks.{capacity_before, book_before}
-use Rattle.screens.specs.declared.faults.ScreenFault.{ScreenFault}
-use Rattle.screens.specs.declared.faults.ScreenFault.TheVariants.{Refused, Memory}
 use Rattle.screens.specs.Lines.{capacity_line, book_line}
 
--- the text of a view: Lines tells which lines it has, and each is printed in its turn
-pub record ViewText {A : Type 0} (precedes : A → A → Bool) (Lines : List A → Type 0) (printed : A → List ℕ) (text : List ℕ) : Type 0 where
+-- the lines of a view: Lines tells which elements it has, and printed how each is printed, as they rank
+pub record ViewLines {A : Type 0} (precedes : A → A → Bool) (Lines : List A → Type 0) (printed : A → Line) (ls : List Line) : Type 0 where
   pub lines : List A
   pub all : Lines lines
   pub ranked : List A
   pub ranks : Ranking precedes lines ranked
-  pub text_is : text ≡ flat_map printed ranked
+  pub lines_are : ls ≡ map printed ranked
 
-abbrev pub CapacityText : State → ℕ → List ℕ → Type 0
-CapacityText s c = ViewText capacity_before (CapacityLines s c) (capacity_line c)
+abbrev pub CapacityView : State → ℕ → List Line → Type 0
+CapacityView s c = ViewLines capacity_before (CapacityLines s c) (capacity_line c)
 
-abbrev pub BookText : State → ℕ → ℕ → Side → List ℕ → Type 0
-BookText s c a side = ViewText book_before (BookLines s c a side) (book_line c a)
+abbrev pub BookView : State → ℕ → ℕ → Side → List Line → Type 0
+BookView s c a side = ViewLines book_before (BookLines s c a side) (book_line c a)
 
--- one text and then another
-abbrev pub Then : (List ℕ → Type 0) → (List ℕ → Type 0) → List ℕ → Type 0
-Then P Q text = (front : List ℕ) × (back : List ℕ) × P front × Q back × (text ≡ front ++ back)
+-- some lines and then others
+abbrev pub Then : (List Line → Type 0) → (List Line → Type 0) → List Line → Type 0
+Then P Q ls = (front : List Line) × (back : List Line) × P front × Q back × (ls ≡ front ++ back)
 
 -- the buys of an area, and then its sells
-abbrev pub AreaText : State → ℕ → ℕ → List ℕ → Type 0
-AreaText s c a = Then (BookText s c a Buy) (BookText s c a Sell)
+abbrev pub AreaView : State → ℕ → ℕ → List Line → Type 0
+AreaView s c a = Then (BookView s c a Buy) (BookView s c a Sell)
 
 -- the areas below n, from 0 on
-unfoldable pub AreasText : State → ℕ → ℕ → List ℕ → Type 0
-AreasText s c zero text = text ≡ []
-AreasText s c (suc n) text = Then (AreasText s c n) (AreaText s c n) text
+unfoldable pub AreasView : State → ℕ → ℕ → List Line → Type 0
+AreasView s c zero ls = ls ≡ []
+AreasView s c (suc n) ls = Then (AreasView s c n) (AreaView s c n) ls
 
 -- the capacity view, and then the book views of all areas
-abbrev pub Screen : State → ℕ → List ℕ → Type 0
-Screen s c = Then (CapacityText s c) (AreasText s c 16)
+abbrev pub Screen : State → ℕ → List Line → Type 0
+Screen s c = Then (CapacityView s c) (AreasView s c 16)
 
--- refused by the first of these tests that applies; the memory can fail only where none does
-abbrev pub FaultBy : List Test → ScreenFault → Type 0
-FaultBy ts (Refused f) = answered ts ≡ Err (told f)
-FaultBy ts (Memory e) = answered ts ≡ Ok tt
+-- the lines of this form are heard, and no more
+abbrev pub Heard : {S : Type 0} → (S → List ℕ → S → Type 0) → (List Line → Type 0) → S → S → Type 0
+Heard hears Form before after = (ls : List Line) × Form ls × hears before (lines_text ls) after
 
--- How a contract is shown: it is refused exactly by what a view of it is refused by, and else there is its text.
-abbrev pub Screened : {A : Type 0} → State → ℕ → Result (String A) ScreenFault → Type 0
-Screened s c (Ok text) = (answered (contract_tests s c) ≡ Ok tt) × Screen s c (string_bytes text)
-Screened s c (Err e) = FaultBy (contract_tests s c) e
+-- How a contract is shown: it is refused exactly by what a view of it is refused by, and then nothing is heard;
+-- else the text of its views' lines is.
+abbrev pub Screened : {S : Type 0} → (S → List ℕ → S → Type 0) → State → ℕ → S → Result (Unit {0}) SessionFault → S → Type 0
+Screened hears s c before (Ok done) after =
+    (answered (contract_tests s c) ≡ Ok tt) × Heard hears (Screen s c) before after
+Screened hears s c before (Err e) after = (answered (contract_tests s c) ≡ Err (told e)) × (after ≡ before)
 
--- no other text shows it
-abbrev pub OnlyScreen : State → ℕ → List ℕ → Type 0
-OnlyScreen s c text = (text' : List ℕ) → Screen s c text' → text' ≡ text
+-- no other lines show it
+abbrev pub OneScreen : State → ℕ → Type 0
+OneScreen s c = (ls ms : List Line) → Screen s c ls → Screen s c ms → ls ≡ ms
+
+-- every number of the lines that show it is in range of its reader, and reads back
+abbrev pub ScreenReadsBack : State → ℕ → Type 0
+ScreenReadsBack s c = (ls : List Line) → Screen s c ls → AllByRecursion LineReadsBack ls

@@ -1,7 +1,6 @@
 // The views of a contract as text for a person.
 #![tactic(auto)]
 
-pub mod faults;
 mod lines;
 pub mod screen;
 #[cfg(test)]

@@ -1,52 +1,46 @@
-// A line of each view as text.
-ghost use Rattle.std.specs.Prelude.{◌≡◌, ◌++◌, string_bytes, OnOk};
+// A line of each view as it is printed.
+ghost use Rattle.std.specs.Prelude.{◌≡◌, ◌≤◌};
+ghost use Rattle.reading.specs.Printing.{line_text};
 ghost use Rattle.screens.specs.Lines.{capacity_line, side_letter, book_line};
 
 use book::rows::Side;
-use numbers::{Unit, show};
-use std::alloc::AllocError;
-use std::fmt::Write;
+use reading::output::{NumberWord, print_line};
+use reading::text::TextSink;
 use views::lines::{BookLine, CapacityLine};
 
 // Prints what can still flow in a direction.
-// Functions and no Display, as in `runs`: a line does not hold its contract and its area.
-pub(crate) fn print_capacity_line(
-    out: &mut String,
-    contract: u32,
-    line: &CapacityLine,
-) -> Result<(), AllocError>
-    ensures { OnOk result (string_bytes out.new ≡ string_bytes out.old ++ capacity_line contract line.now) }
+pub(crate) fn print_capacity_line<S: TextSink>(out: &mut S, contract: u32, line: &CapacityLine)
+    ensures { S.TextSink.hears out.old (line_text (capacity_line contract line.now)) out.new }
 {
-    let heap = *out.allocator();
-    let atc = show(heap, line.atc, Unit::Megawatt)?;
-    writeln!(out, "A {contract} {} {} {atc}", line.from, line.to)
+    let numbers = [
+        NumberWord::Plain(contract),
+        NumberWord::Plain(line.from),
+        NumberWord::Plain(line.to),
+        NumberWord::Flow(line.atc),
+    ];
+    print_line(out, b"A", &numbers);
 }
 
-fn side_letter(side: Side) -> &'static str
+fn side_letter(side: Side) -> &'static [u8]
     ensures { result.now ≡ side_letter side }
 {
     match side {
-        Side::Buy => "B",
-        Side::Sell => "S",
+        Side::Buy => b"B",
+        Side::Sell => b"S",
     }
 }
 
 // Prints an order that shows in an area.
-pub(crate) fn print_book_line(
-    out: &mut String,
-    contract: u32,
-    area: u32,
-    line: &BookLine,
-) -> Result<(), AllocError>
-    ensures { OnOk result (string_bytes out.new ≡ string_bytes out.old ++ book_line contract area line.now) }
+pub(crate) fn print_book_line<S: TextSink>(out: &mut S, contract: u32, area: u32, line: &BookLine)
+    requires { line.now.place ≤ 127 }
+    ensures { S.TextSink.hears out.old (line_text (book_line contract area line.now)) out.new }
 {
-    let heap = *out.allocator();
-    let side = side_letter(line.side);
-    let limit = show(heap, line.limit, Unit::Euro)?;
-    let quantity = show(heap, line.quantity, Unit::Megawatt)?;
-    writeln!(
-        out,
-        "{side} {contract} {area} {} {limit} {quantity}",
-        line.place
-    )
+    let numbers = [
+        NumberWord::Plain(contract),
+        NumberWord::Plain(area),
+        NumberWord::Plain(line.place as u32),
+        NumberWord::Price(line.limit),
+        NumberWord::Amount(line.quantity),
+    ];
+    print_line(out, side_letter(line.side), &numbers);
 }

@@ -1,19 +1,21 @@
 // The views of a contract, printed one after another.
-ghost use Rattle.std.specs.Prelude.{◌≡◌, ◌≤◌, IfOk, string_bytes, MatchResult, Ok};
+ghost use Rattle.std.specs.Prelude.{◌≡◌, ◌≤◌, Ok, OnOk};
+ghost use Rattle.std.specs.List.{AllByRecursion};
 ghost use Rattle.capacity.specs.Tests.{answered};
+ghost use Rattle.reading.specs.Printing.{LineReadsBack};
 ghost use Rattle.session.specs.State.{state};
 ghost use Rattle.views.specs.Capacities.{contract_tests};
-ghost use Rattle.screens.specs.Screens.{CapacityText, BookText, FaultBy, Screened, OnlyScreen};
-ghost use Rattle.screens.specs.Printing.{Adds};
+ghost use Rattle.screens.specs.Screens.{CapacityView, BookView, Screened, OneScreen, ScreenReadsBack};
+ghost use Rattle.screens.specs.Printing.{HeardBack};
 
-use crate::faults::ScreenFault;
 use crate::lines::{print_book_line, print_capacity_line};
 use book::places::PLACES;
 use book::rows::Side;
 use capacity::register::Register;
+use reading::text::TextSink;
 use routes::AREAS;
+use session::faults::SessionFault;
 use session::state::Session;
-use std::alloc::Global;
 use views::lines::{BookLine, CapacityLine};
 use views::{book_view, capacity_view};
 
@@ -35,56 +37,61 @@ const NO_ORDER: BookLine = BookLine {
     quantity: 0,
 };
 
-// Prints the capacity view.
-fn print_capacities<R: Register>(
-    out: &mut String,
-    session: &Session<R>,
-    contract: u32,
-) -> Result<(), ScreenFault>
-    ensures { MatchResult result (λ _. (answered (contract_tests (state R.Register.meaning session.now) contract) ≡ Ok tt) × Adds (CapacityText (state R.Register.meaning session.now) contract) (string_bytes out.old) (string_bytes out.new)) (FaultBy (contract_tests (state R.Register.meaning session.now) contract)) }
+// Prints the capacity view of a contract that can be viewed.
+fn print_capacities<R: Register, S: TextSink>(session: &Session<R>, contract: u32, out: &mut S)
+    requires { answered (contract_tests (state R.Register.meaning session.now) contract) ≡ Ok tt }
+    ensures { let view = CapacityView (state R.Register.meaning session.now) contract in
+        HeardBack S.TextSink.hears view out.old out.new }
 {
     let mut lines = [NO_CAPACITY; CAPACITY_LINES];
-    let count = capacity_view(session, contract, &mut lines)?;
+    let Ok(count) = capacity_view(session, contract, &mut lines) else {
+        return;
+    };
     for line in lines[..count].iter() {
-        print_capacity_line(out, contract, line)?;
+        print_capacity_line(out, contract, line);
     }
-    Ok(())
 }
 
-// Prints the book view of an area and a side.
-fn print_book<R: Register>(
-    out: &mut String,
+// Prints the book view of an area and a side of a contract that can be viewed.
+fn print_book<R: Register, S: TextSink>(
     session: &Session<R>,
     contract: u32,
     area: u32,
     side: Side,
-) -> Result<(), ScreenFault>
-    requires { area ≤ 15 }
-    ensures { MatchResult result (λ _. Adds (BookText (state R.Register.meaning session.now) contract area side) (string_bytes out.old) (string_bytes out.new)) (FaultBy (contract_tests (state R.Register.meaning session.now) contract)) }
+    out: &mut S,
+)
+    requires open { answered (contract_tests (state R.Register.meaning session.now) contract) ≡ Ok tt }
+    requires area { area ≤ 15 }
+    ensures { let view = BookView (state R.Register.meaning session.now) contract area side in
+        HeardBack S.TextSink.hears view out.old out.new }
 {
     let mut places = [NO_ORDER; BOOK_LINES];
     let lines = &mut places[..session.book().len()];
-    let count = book_view(session, contract, area, side, lines)?;
+    let Ok(count) = book_view(session, contract, area, side, lines) else {
+        return;
+    };
     for line in lines[..count].iter() {
-        print_book_line(out, contract, area, line)?;
+        print_book_line(out, contract, area, line);
     }
-    Ok(())
 }
 
-// The views of a contract as text: its capacity, and then its book, area after area, buys before sells.
-pub fn screen<R: Register>(
-    heap: Global,
+/// Prints the views of a contract: its capacity, and then its book, area after area, buys before sells.
+/// A contract above 23 is refused by 2 and a closed one by 3, and then nothing is printed.
+pub fn screen<R: Register, S: TextSink>(
     session: &Session<R>,
     contract: u32,
-) -> Result<String, ScreenFault>
-    ensures screen { Screened (state R.Register.meaning session.now) contract result }
-    ensures only { IfOk result (λ text. OnlyScreen (state R.Register.meaning session.now) contract (string_bytes text)) }
+    out: &mut S,
+) -> Result<(), SessionFault>
+    ensures screen { let market = state R.Register.meaning session.now in
+        Screened S.TextSink.hears market contract out.old result out.new }
+    ensures only { OneScreen (state R.Register.meaning session.now) contract }
+    ensures back { OnOk result (ScreenReadsBack (state R.Register.meaning session.now) contract) }
 {
-    let mut out = String::new(heap);
-    print_capacities(&mut out, session, contract)?;
+    session.check_view(contract)?;
+    print_capacities(session, contract, out);
     for area in 0..AREAS {
-        print_book(&mut out, session, contract, area, Side::Buy)?;
-        print_book(&mut out, session, contract, area, Side::Sell)?;
+        print_book(session, contract, area, Side::Buy, out);
+        print_book(session, contract, area, Side::Sell, out);
     }
-    Ok(out)
+    Ok(())
 }

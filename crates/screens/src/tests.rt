@@ -1,10 +1,10 @@
 // The screen of a session begun afresh, and those that are refused; the program shows a fuller one of samples/market.ctm.
-use crate::faults::ScreenFault;
 use crate::screen::screen;
 use capacity::direction::Direction;
 use capacity::figures::Figures;
 use capacity::map::ConnectorMap;
 use capacity::register::Register;
+use reading::text::{TextLog, TextSink};
 use session::state::Session;
 use std::test::Fail;
 
@@ -28,18 +28,19 @@ fn capacity_and_refusals(rt: HostRuntime) -> Result<(), Fail> {
     };
     let _ = register.notice(WAY, figures);
     let (mut session, pass) = Session::begin(7, register);
-    match screen(rt.alloc(), &session, 3) {
-        Ok(text) => assert_eq!(rt; text.as_str(), "A 3 1 0 -0.5\nA 3 0 1 3.0\n"),
-        Err(_) => return Err(Fail::new("refused")),
-    }
-    match screen(rt.alloc(), &session, 24) {
-        Err(ScreenFault::Refused(fault)) => assert_eq!(rt; fault.number(), 2),
-        _ => return Err(Fail::new("shown")),
+    let mut out = TextLog::new(rt.alloc());
+    out.hear(b"> ");
+    assert!(rt; screen(&session, 3, &mut out).is_ok());
+    match screen(&session, 24, &mut out) {
+        Err(fault) => assert_eq!(rt; fault.number(), 2),
+        Ok(()) => return Err(Fail::new("shown")),
     }
     let _closing = session.close(pass, 3);
-    match screen(rt.alloc(), &session, 3) {
-        Err(ScreenFault::Refused(fault)) => assert_eq!(rt; fault.number(), 3),
-        _ => return Err(Fail::new("shown")),
+    match screen(&session, 3, &mut out) {
+        Err(fault) => assert_eq!(rt; fault.number(), 3),
+        Ok(()) => return Err(Fail::new("shown")),
     }
+    let text = out.into_text()?;
+    assert!(rt; text.as_slice() == b"> A 3 1 0 -0.5\nA 3 0 1 3.0\n".as_slice());
     Ok(())
 }

@@ -1,5 +1,5 @@
 // The calls on a session.
-ghost use Rattle.std.specs.Prelude.{◌≡◌, length};
+ghost use Rattle.std.specs.Prelude.{◌≡◌, ◌≤◌, length};
 ghost use Rattle.session.specs.State.{state, fresh};
 ghost use Rattle.session.specs.Calls.{answer, begun, kept, shut, counted, requesting, noticing, withdrawing, closing, entering, changing, ended, ending};
 
@@ -28,10 +28,12 @@ impl<R: Register> Session<R> {
     }
 
     // How many orders are in the book.
-    pub fn resting(&self) -> usize
-        ensures { result ≡ length (state R.Register.meaning self.now).book }
+    pub fn resting(&self) -> u32
+        ensures count { result ≡ length (state R.Register.meaning self.now).book }
+        ensures room { result ≤ 128 }
     {
-        self.book.len()
+        // `as`: at most 128.
+        self.book.len() as u32
     }
 
     // Takes a quantity on one connector, and begins a batch round on the contract.

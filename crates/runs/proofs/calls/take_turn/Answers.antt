@@ -1,13 +1,14 @@
--- The log has the text of every trade, or the memory did not suffice.
-use Rattle.std.proofs.Common.{ℕ, List, [], ◌++◌, string_bytes, sym, subst, ◌∙◌, ap}
-use Rattle.runs.specs.declared.logs.TradeText.{TradeText}
-use Rattle.runs.proofs.Noting.{Has, all_added}
+-- What was asked for is made a turn, and its trades are heard; or nothing is.
+use Rattle.session.specs.State.{state}
+use Rattle.runs.proofs.Printing.{turn_run, unread_run}
 use Rattle.runs.proofs.calls.take_turn.Goals as goal
 
-pub returns : goal.returns
-returns g c =
-    let x = c.perform-answer.ensures.performed in
-    let start : Has x.told.text [] = subst (λ (t : TradeText). Has t.text []) (sym x.call_noted) c.new.ensures.bytes in
-    let added = all_added x.trades x.told c.perform-answer.new.log [] x.trades_noted start in
-    let text = rw c.in_ok-text.was at added in
-    (x.trades, (x.turn, c.in_ok-push_str.ensures.bytes ∙ ap (λ (t : List ℕ). string_bytes c.args.out.now ++ t) (c.as_str.ensures.value ∙ text), c.perform-answer.ensures.pass))
+pub returns-in-Ok-clause-turn : goal.returns-in-Ok-clause-turn
+returns-in-Ok-clause-turn g c =
+    turn_run g.S.TextSink.hears g.S.TextSink.whole (state g.R.Register.meaning c.args.session.now) (state g.R.Register.meaning c.perform-answer.new.session) c.args.pass.number c.args.reader.now c.call.new.reader c.in-Ok.call c.perform-answer.result.0 c.accepted.result c.args.out.now c.perform-answer.new.log
+    c.accepted.ensures c.in-Ok.ensures.call c.in-Ok.ensures.reads c.perform-answer.ensures.performed
+
+pub returns-in-Err-clause-turn : goal.returns-in-Err-clause-turn
+returns-in-Err-clause-turn g c =
+    unread_run g.S.TextSink.hears g.S.TextSink.whole (state g.R.Register.meaning c.args.session.now) c.args.pass.number c.args.reader.now c.call.new.reader c.in-Err.fault c.from.result c.args.out.now.sink
+    c.from.ensures c.in-Err.ensures.call c.in-Err.ensures.reads

@@ -1,5 +1,5 @@
 -- What the M lines so far have printed, and what may follow.
-use Rattle.std.proofs.Common.{length, string_bytes}
+use Rattle.std.proofs.Common.{length}
 use Rattle.capacity.specs.Network.{no_network}
 use Rattle.capacity.specs.Shapes.{network_of}
 use Rattle.reading.specs.Reading.{below}
@@ -7,7 +7,7 @@ use Rattle.runs.specs.Running.{Printed, MapsBelow}
 use Rattle.runs.proofs.maps.run_map.Given as goal
 
 abbrev pub invariant-loop-reader : goal.invariant-loop-reader
-invariant-loop-reader l = Printed (MapsBelow no_network l.initial.reader) (MapsBelow (network_of l.map) l.reader) (string_bytes l.initial.out) (string_bytes l.out)
+invariant-loop-reader g l = Printed g.S.TextSink.hears (MapsBelow no_network l.initial.reader) (MapsBelow (network_of l.map) l.reader) l.initial.out.sink l.out.sink
 
 abbrev pub decreases-loop-reader : goal.decreases-loop-reader
-decreases-loop-reader l = length (below l.reader)
+decreases-loop-reader g l = length (below l.reader)

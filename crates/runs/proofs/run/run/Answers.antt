@@ -1,11 +1,25 @@
--- What the run prints and leaves is what the script does, and nothing else is.
-use Rattle.std.proofs.Common.{string_bytes}
-use Rattle.runs.specs.Runs.{Prints, left}
+-- What the script prints is heard, is determined, and reads back.
+use Rattle.history.proofs.Once.{one_answer}
+use Rattle.history.proofs.Together.{laws_hold}
+use Rattle.runs.proofs.Backs.{reads_back}
 use Rattle.runs.proofs.Once.{one_print}
+use Rattle.runs.proofs.Printing.{printed_run}
+use Rattle.runs.specs.Runs.{left}
 use Rattle.runs.proofs.run.run.Goals as goal
 
+pub returns-clause-prints : goal.returns-clause-prints
+returns-clause-prints g c =
+    let all = printed_run g.S.TextSink.hears g.S.TextSink.whole c.args.script.now (left c.run_script-session.result) c.args.out c.print_mark.new.out c.run_script-session.new.out.sink c.print_mark.ensures c.run_script-session.ensures in
+    (all.0, all.1.0, all.1.1)
+
 pub returns-clause-only : goal.returns-clause-only
-returns-clause-only c t' out' h =
-    let (text, (all, comes)) = c.in_ok-session.ensures in
-    let so : Prints c.args.script.now (left c.in_ok-session.session) (string_bytes c.run_script.new.out) = (text, (rw c.in_ok-output.ensures.ok at all, comes)) in
-    one_print c.args.script.now t' (left c.in_ok-session.session) out' (string_bytes c.run_script.new.out) h so
+returns-clause-only g c = one_print c.args.script.now
+
+pub returns-clause-reads_back : goal.returns-clause-reads_back
+returns-clause-reads_back g c = reads_back c.args.script.now
+
+pub returns-clause-laws : goal.returns-clause-laws
+returns-clause-laws g c = laws_hold
+
+pub returns-clause-once : goal.returns-clause-once
+returns-clause-once g c = one_answer
