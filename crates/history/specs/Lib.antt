@@ -2,3 +2,4 @@
 pub mod History
 pub mod Standing
 pub mod Laws
+pub mod Leading
