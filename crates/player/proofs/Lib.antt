@@ -1,6 +1,6 @@
 -- Laws of what is played.
 mod Turns
-mod Once
+pub mod Once
 mod Hearing
 mod Holding
 mod Ending
