@@ -1,2 +1,3 @@
--- Laws of the calls as values.
+-- Laws of the calls and steps as values.
 pub mod Tests
+pub mod Placing

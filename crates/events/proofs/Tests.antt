@@ -123,3 +123,22 @@ stays s (Close c) b = refl
 pub none_begun : (s : State) (p : ℕ) (k : Call) (a : Answer) (t : State) → Answered s p k a t → round_follows k a ≡ false → t.round ≡ s.round
 none_begun s p k (Err f) t h b = ap (λ (u : State). u.round) (refused s p k f t h)
 none_begun s p k (Ok n) t h b = ap (λ (u : State). u.round) (leads s p k n t h) ∙ stays s k (sym (and-true (begins_round k)) ∙ b)
+
+-- ---- the session's number
+
+changed_number : (s : State) (c : AChange) (x : Option ℕ) → (changed s c.limit c.quantity x).number ≡ s.number
+changed_number s c None = refl
+changed_number s c (Some k) = refl
+
+led_number : (s : State) (k : Call) → (led_to s k).number ≡ s.number
+led_number s (Enter e) = refl
+led_number s (Change c) = changed_number s c (place (numbered_of c.number c.member) s.book)
+led_number s (Withdraw n m) = refl
+led_number s (Request d q) = refl
+led_number s (Notice d f) = refl
+led_number s (Close c) = refl
+
+-- no call changes it
+pub same_number : (s : State) (p : ℕ) (k : Call) (a : Answer) (t : State) → Answered s p k a t → t.number ≡ s.number
+same_number s p k (Err f) t h = ap (λ (u : State). u.number) (refused s p k f t h)
+same_number s p k (Ok n) t h = ap (λ (u : State). u.number) (leads s p k n t h) ∙ led_number s k

@@ -1,10 +1,12 @@
 -- How each call and each step is answered, and what stands after it.
-use Rattle.std.specs.Prelude.{◌≡◌, ℕ, Bool, true, false, ◌&&◌, List, take, Some, None, Ok, Err, Option, Result, is_ok}
+use Rattle.std.specs.Prelude.{◌≡◌, ℕ, ◌-◌, Bool, true, false, ◌&&◌, List, ◌++◌, length, take, drop, replicate, Some, None, Ok, Err, Option, Result, is_ok}
+use Rattle.capacity.specs.Meaning.{Capacity}
 use Rattle.capacity.specs.Tests.{answered}
 use Rattle.trades.specs.declared.trade.Trade.{Trade}
 use Rattle.session.specs.declared.faults.SessionFault.{SessionFault}
 use Rattle.session.specs.Faults.{Refusal, told}
-use Rattle.session.specs.State.{State}
+use Rattle.session.specs.declared.state.Session.{Session}
+use Rattle.session.specs.State.{State, state}
 use Rattle.session.specs.Calls.{entering, changing, withdrawing, requesting, noticing, closing}
 use Rattle.session.specs.Steps.{step_tests, Ends}
 use Rattle.session.specs.Rounds.{Logged, Makes}
@@ -46,6 +48,14 @@ Answered s p (Close c) a t = Counting (closing s p c).0 a × (t ≡ (closing s p
 abbrev pub logged : Trade → List ℕ → Logged
 logged x places = record { trade = x; route = take x.areas places }
 
+-- a route in 16 places, nought past its areas
+abbrev pub places : List ℕ → List ℕ
+places xs = take 16 xs ++ replicate (16 - length xs) 0
+
+-- a trade as a step answers it
+abbrev pub in_places : Logged → Traded
+in_places x = record { trade = x.trade; route = places x.route }
+
 -- a step made at s over z places: refused, a trade of the round, or the round's end
 abbrev pub StepAnswered : State → ℕ → ℕ → StepAnswer → State → Type 0
 StepAnswered s p z (Err f) t = (answered (step_tests s p z) ≡ Err (told f)) × (t ≡ s)
@@ -56,6 +66,20 @@ StepAnswered s p z (Ok None) t = (answered (step_tests s p z) ≡ Ok tt) × Ends
 abbrev pub Happens : State → Event → State → Type 0
 Happens s (Called p k a) t = Answered s p k a t
 Happens s (Stepped p z a) t = StepAnswered s p z a t
+
+-- the same on a session
+module _ {R : Type 0} (meaning : R → Capacity) where
+  abbrev pub HappensOn : Session R → Event → Session R → Type 0
+  HappensOn before e after = Happens (state meaning before) e (state meaning after)
+
+-- The places after a step: the route of its trade in the first, and the others as they were; all as they were where it trades nothing.
+-- The answer has the route and then nought.
+abbrev pub PlacesAfter : List ℕ → StepAnswer → List ℕ → Type 0
+PlacesAfter before (Err f) after = after ≡ before
+PlacesAfter before (Ok None) after = after ≡ before
+PlacesAfter before (Ok (Some x)) after =
+    let xs = take x.trade.areas x.route in
+    (x.route ≡ places xs) × (after ≡ xs ++ drop (length xs) before)
 
 -- accepted, or the fault that the call was refused by
 abbrev pub acceptance : Answer → Result (Unit {0}) SessionFault
@@ -73,3 +97,9 @@ begins_round (Close c) = false
 
 abbrev pub round_follows : Call → Answer → Bool
 round_follows k a = begins_round k && is_ok a
+
+-- whether the round goes on after a step
+abbrev pub goes_on : StepAnswer → Bool
+goes_on (Err f) = true
+goes_on (Ok (Some x)) = true
+goes_on (Ok None) = false

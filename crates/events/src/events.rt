@@ -1,4 +1,7 @@
 // What happens on a session: each call with its answer, and each step of a round with its own.
+ghost use Rattle.std.specs.Prelude.{◌≡◌};
+ghost use Rattle.events.specs.Events.{in_places};
+
 use crate::calls::Call;
 use routes::ROUTE_PLACES;
 use session::faults::SessionFault;
@@ -13,6 +16,21 @@ pub type Answer = Result<Option<usize>, SessionFault>;
 pub struct Traded {
     pub trade: Trade,
     pub route: [u32; ROUTE_PLACES],
+}
+
+impl Traded {
+    // A trade along these areas, nought in the places past them. Tried as `array::from_fn`: it took a lemma and an answer, and this none.
+    pub fn new(trade: &Trade, route: &[u32]) -> Traded
+        ensures { result ≡ in_places (record { trade = trade.now; route = route.now }) }
+    {
+        let mut places = [0; ROUTE_PLACES];
+        let n = route.len().min(ROUTE_PLACES);
+        places[..n].copy_from_slice(&route[..n]);
+        Traded {
+            trade: *trade,
+            route: places,
+        }
+    }
 }
 
 // How a step was answered: why it was refused, the trade that it made, or none as the round is done.

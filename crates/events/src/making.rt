@@ -1,7 +1,8 @@
 // A call made on a session, and the pass that it leaves.
 ghost use Rattle.std.specs.Prelude.{◌≡◌, Ok, Err, MatchResult};
 ghost use Rattle.session.specs.State.{state};
-ghost use Rattle.events.specs.Events.{Answered, begins_round, round_follows};
+ghost use Rattle.events.specs.declared.events.Event.TheVariants.{Called};
+ghost use Rattle.events.specs.Events.{Answered, HappensOn, begins_round, round_follows};
 ghost use Rattle.events.specs.Performing.{LeftBy};
 
 use crate::calls::Call;
@@ -10,9 +11,9 @@ use capacity::register::Register;
 use session::passes::{Closing, QuietPass, Refused, RoundPass};
 use session::state::Session;
 
-// The pass that a call leaves: of a quiet session, or of one with a round under way. Neither is a fault and both hold a pass, so a
-// Result or an Option would say less.
-pub(crate) enum Left {
+// The pass that a call or a step leaves: of a quiet session, or of one with a round under way. Neither is a fault and both hold a
+// pass, so a Result or an Option would say less.
+pub enum Left {
     Quiet(QuietPass),
     Round(RoundPass),
 }
@@ -47,12 +48,9 @@ fn accept<R: Register>(
     Ok((None, Left::Round(round)))
 }
 
-pub(crate) fn make<R: Register>(
-    session: &mut Session<R>,
-    pass: QuietPass,
-    call: &Call,
-) -> (Answer, Left)
-    ensures answer { Answered (state R.Register.meaning session.old) pass.number call.now result.0 (state R.Register.meaning session.new) }
+// Makes a call, with a pass of any session. A refused one leaves the session as it was and hands the same pass back.
+pub fn make<R: Register>(session: &mut Session<R>, pass: QuietPass, call: &Call) -> (Answer, Left)
+    ensures happens { HappensOn R.meaning session.old (Called pass.number call.now result.0) session.new }
     ensures left { LeftBy (round_follows call.now result.0) pass.number result.1 }
 {
     match accept(session, pass, call) {

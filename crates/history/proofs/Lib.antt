@@ -20,6 +20,7 @@ pub mod AfterEntry
 pub mod AfterCalls
 pub mod AfterSteps
 pub mod Together
+pub mod Leading
 pub mod Faults
 pub mod Once
 pub mod OneTurn

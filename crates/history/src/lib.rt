@@ -1,2 +1,5 @@
-// What stands in the market by the events of a session alone, and the laws that no list of calls can break.
+// What stands in the market by the events of a session alone, the laws that no list of calls can break, and a call and a step that carry
+// them for any caller.
 #![tactic(auto)]
+
+pub mod carrying;

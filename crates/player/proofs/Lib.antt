@@ -1,4 +1,6 @@
 -- Laws of what is played.
-mod Placing
 mod Turns
-mod Noting
+pub mod Once
+mod Hearing
+mod Holding
+mod Ending

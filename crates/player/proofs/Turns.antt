@@ -9,35 +9,42 @@ use Rattle.events.specs.declared.events.Event.{Event}
 use Rattle.events.specs.declared.events.Event.TheVariants.{Called, Stepped}
 use Rattle.events.specs.Events.{Answer, round_follows}
 use Rattle.events.specs.Turns.{Follows, Turned, with_steps, with_turn}
-use Rattle.events.proofs.Tests.{none_begun}
+use Rattle.events.proofs.Placing.{told_whole}
+use Rattle.events.proofs.Tests.{none_begun, same_number}
 use Rattle.history.specs.History.{Reached}
 use Rattle.history.proofs.Together.{lawfully}
 use Rattle.history.proofs.Turning.{turned_placed}
-use Rattle.player.specs.Playing.{placed, Played, Plays, calls_of}
-use Rattle.player.proofs.Placing.{placed_same}
+use Rattle.player.specs.Playing.{placed, Played, GivesBack, calls_of}
 
 played_reached : (m : Capacity) (n p : ℕ) (s : State) (h : List Event) (ks : List Call) (t : State) (g : List Event) → Reached m n h s → Played p s h ks t g → Reached m n g t
 played_reached m n p s h [] t g r (e, f) = subst (λ (x : List Event). Reached m n x t) (sym f) (subst (Reached m n h) (sym e) r)
 played_reached m n p s h (k ∷ ks) t g r (a, xs, u, (turn, rest)) =
-    played_reached m n p u (with_turn p k a (map placed xs) h) ks t g (turned_placed placed placed_same m n p h s u k a xs r turn) rest
+    played_reached m n p u (with_turn p k a (map placed xs) h) ks t g (turned_placed placed told_whole m n p h s u k a xs r turn) rest
 
--- ---- quiet
+-- ---- quiet, and of the same number
 
-ran_quiet : (s : State) (xs : List Logged) (t : State) → Ran s xs t → t.round ≡ None
-ran_quiet s [] t r = ap (λ (u : State). u.round) r.state
-ran_quiet s (x ∷ xs) t (u, makes, rest) = ran_quiet u xs t rest
+abbrev Quiet : State → State → Type 0
+Quiet s t = (t.round ≡ None) × (t.number ≡ s.number)
 
-followed_quiet : (b : Bool) (s : State) (xs : List Logged) (t : State) → (b ≡ false → s.round ≡ None) → Follows b s xs t → t.round ≡ None
+ran_quiet : (s : State) (xs : List Logged) (t : State) → Ran s xs t → Quiet s t
+ran_quiet s [] t r = (ap (λ (u : State). u.round) r.state, ap (λ (u : State). u.number) r.state)
+ran_quiet s (x ∷ xs) t (u, makes, rest) = let q = ran_quiet u xs t rest in (q.0, q.1 ∙ ap (λ (v : State). v.number) makes.state)
+
+followed_quiet : (b : Bool) (s : State) (xs : List Logged) (t : State) → (b ≡ false → s.round ≡ None) → Follows b s xs t → Quiet s t
 followed_quiet true s xs t q f = ran_quiet s xs t f
-followed_quiet false s xs t q f = ap (λ (u : State). u.round) f.1 ∙ q refl
+followed_quiet false s xs t q f = (ap (λ (u : State). u.round) f.1 ∙ q refl, ap (λ (u : State). u.number) f.1)
 
-turned_quiet : (s : State) (p : ℕ) (k : Call) (a : Answer) (xs : List Logged) (t : State) → s.round ≡ None → Turned s p k a xs t → t.round ≡ None
+turned_quiet : (s : State) (p : ℕ) (k : Call) (a : Answer) (xs : List Logged) (t : State) → s.round ≡ None → Turned s p k a xs t → Quiet s t
 turned_quiet s p k a xs t q turn =
-    followed_quiet (round_follows k a) turn.called xs t (λ b. none_begun s p k a turn.called turn.answered b ∙ q) turn.followed
+    let f = followed_quiet (round_follows k a) turn.called xs t (λ b. none_begun s p k a turn.called turn.answered b ∙ q) turn.followed in
+    (f.0, f.1 ∙ same_number s p k a turn.called turn.answered)
 
-played_quiet : (p : ℕ) (s : State) (h : List Event) (ks : List Call) (t : State) (g : List Event) → s.round ≡ None → Played p s h ks t g → t.round ≡ None
-played_quiet p s h [] t g q (e, f) = ap (λ (u : State). u.round) e ∙ q
-played_quiet p s h (k ∷ ks) t g q (a, xs, u, (turn, rest)) = played_quiet p u (with_turn p k a (map placed xs) h) ks t g (turned_quiet s p k a xs u q turn) rest
+pub played_quiet : (p : ℕ) (s : State) (h : List Event) (ks : List Call) (t : State) (g : List Event) → s.round ≡ None → Played p s h ks t g → Quiet s t
+played_quiet p s h [] t g q (e, f) = (ap (λ (u : State). u.round) e ∙ q, ap (λ (u : State). u.number) e)
+played_quiet p s h (k ∷ ks) t g q (a, xs, u, (turn, rest)) =
+    let one = turned_quiet s p k a xs u q turn in
+    let more = played_quiet p u (with_turn p k a (map placed xs) h) ks t g one.0 rest in
+    (more.0, more.1 ∙ one.1)
 
 -- ---- the calls
 
@@ -82,13 +89,15 @@ played_more p s h [] t g k a xs u (e, f) turn =
 played_more p s h (j ∷ ks) t g k a xs u (b, ys, v, (first, rest)) turn =
     (b, ys, v, (first, played_more p v (with_turn p j b (map placed ys) h) ks t g k a xs u rest turn))
 
-pub plays : (m : Capacity) (n : ℕ) (ks : List Call) (t : State) (es : List Event) → Sound m → Played n (fresh n m) [] ks t (reverse es) → Plays m n ks es
-plays m n ks t es sound h = record {
-  after = t;
-  turns = h;
-  lawful = lawfully m n (reverse es) t sound (played_reached m n n (fresh n m) [] ks t (reverse es) refl h);
-  quiet = played_quiet n (fresh n m) [] ks t (reverse es) refl h;
+-- a history of them, and what it leaves of the register
+pub gives_back : (m : Capacity) (n : ℕ) (ks : List Call) (t : State) (es : List Event) (c : Capacity) → Sound m → Played n (fresh n m) [] ks t (reverse es) → c ≡ t.capacity → GivesBack m n ks es c
+gives_back m n ks t es c sound h e = record {
+  plays = record {
+    after = t;
+    turns = h;
+    lawful = lawfully m n (reverse es) t sound (played_reached m n n (fresh n m) [] ks t (reverse es) refl h);
+    quiet = (played_quiet n (fresh n m) [] ks t (reverse es) refl h).0;
+  };
+  calls = ap calls_of (sym (reverse-reverse es)) ∙ played_made n (fresh n m) [] ks t (reverse es) h;
+  register = e;
 }
-
-pub played_calls : (m : Capacity) (n : ℕ) (ks : List Call) (t : State) (es : List Event) → Played n (fresh n m) [] ks t (reverse es) → calls_of es ≡ ks
-played_calls m n ks t es h = ap calls_of (sym (reverse-reverse es)) ∙ played_made n (fresh n m) [] ks t (reverse es) h

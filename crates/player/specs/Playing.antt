@@ -1,18 +1,14 @@
 -- The events that a list of calls makes on a session begun afresh.
-use Rattle.std.specs.Prelude.{◌≡◌, ℕ, ◌-◌, List, [], ◌∷◌, ◌++◌, map, reverse, length, take, replicate, None}
+use Rattle.std.specs.Prelude.{◌≡◌, ℕ, List, [], ◌∷◌, map, reverse, None}
 use Rattle.capacity.specs.Meaning.{Capacity}
 use Rattle.session.specs.Rounds.{Logged}
 use Rattle.session.specs.State.{State, fresh}
 use Rattle.events.specs.declared.calls.Call.{Call}
 use Rattle.events.specs.declared.events.Event.{Event}
 use Rattle.events.specs.declared.events.Event.TheVariants.{Called, Stepped}
-use Rattle.events.specs.Events.{Answer}
+use Rattle.events.specs.Events.{Answer, places}
 use Rattle.events.specs.Turns.{Turned, with_turn}
 use Rattle.history.specs.Laws.{Lawfully}
-
--- a route in 16 places, nought past its areas
-abbrev pub places : List ℕ → List ℕ
-places xs = take 16 xs ++ replicate (16 - length xs) 0
 
 abbrev pub placed : Logged → Logged
 placed x = record { trade = x.trade; route = places x.route }
@@ -36,3 +32,13 @@ abbrev pub calls_of : List Event → List Call
 calls_of [] = []
 calls_of (Called p k a ∷ es) = k ∷ calls_of es
 calls_of (Stepped p z a ∷ es) = calls_of es
+
+-- The calls make these events, and the register that is given back then means c: what their history leads to.
+pub record GivesBack (m : Capacity) (n : ℕ) (ks : List Call) (es : List Event) (c : Capacity) : Type 0 where
+  pub plays : Plays m n ks es
+  pub calls : calls_of es ≡ ks
+  pub register : c ≡ plays.after.capacity
+
+-- the calls make one list of events, which leads to one state
+abbrev pub OnePlaying : Capacity → ℕ → List Call → Type 0
+OnePlaying m n ks = (es fs : List Event) (h : Plays m n ks es) (k : Plays m n ks fs) → (es ≡ fs) × (h.after ≡ k.after)

@@ -3,5 +3,7 @@
 
 mod logs;
 pub mod playing;
+pub mod sinks;
+mod telling;
 #[cfg(test)]
 mod tests;

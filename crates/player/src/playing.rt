@@ -1,62 +1,73 @@
 // Calls played one after another on a session begun afresh, each round run to its end.
-ghost use Rattle.std.specs.Prelude.{◌≡◌, IfOk};
+ghost use Rattle.std.specs.Prelude.{◌≡◌, IfOk, List};
+ghost use Rattle.events.specs.declared.events.Event.{Event as AnEvent};
 ghost use Rattle.history.specs.Laws.{LawsHold, OneAnswer};
 ghost use Rattle.history.specs.Stands.{StandingTold};
-ghost use Rattle.session.specs.State.{state};
-ghost use Rattle.player.specs.Logs.{TurnNoted};
-ghost use Rattle.player.specs.Playing.{Plays, calls_of};
+ghost use Rattle.player.specs.Playing.{Plays, GivesBack, OnePlaying, calls_of};
+ghost use Rattle.player.specs.Sinks.{Heard};
 
 use crate::logs::EventLog;
+use crate::sinks::EventSink;
+use crate::telling::{Telling, take_turn};
 use capacity::register::Register;
 use events::calls::Call;
 use events::events::Event;
-use events::performing::perform;
-use routes::ROUTE_PLACES;
-use session::passes::QuietPass;
 use session::state::Session;
 use std::alloc::{AllocError, Global};
 
-// Makes a call and runs its round to its end; the call, each trade and the end of the round are noted.
-// The parameters are those of `perform`, which takes the pass by value and the rest by reference, so no struct holds them.
-fn take_turn<R: Register>(
-    session: &mut Session<R>,
-    pass: QuietPass,
-    call: &Call,
-    log: &mut EventLog,
-) -> QuietPass
-    requires { log.old.pass ≡ pass.number }
-    ensures turn { TurnNoted (state R.Register.meaning session.old) pass.number call.now log.old log.new (state R.Register.meaning session.new) }
-    ensures pass { result.number ≡ pass.number }
-{
-    let (answer, quiet) = perform(session, pass, call, log);
-    let follows = call.begins_round() && answer.is_ok();
-    if follows {
-        log.add(Event::Stepped {
-            pass: log.pass,
-            places: ROUTE_PLACES,
-            answer: Ok(None),
-        });
-    }
-    quiet
+// The register of the session that was played, and what heard its events.
+#[derive(Drop)]
+pub struct GivenBack<R, S> {
+    pub register: R,
+    pub sink: S,
 }
 
-// Begins a session over the register, makes each call in turn and runs its round to its end; answers all that happens, oldest first.
-pub fn play<R: Register + Drop>(
-    heap: Global,
+// Begins a session over the register, makes each call in turn and runs its round to its end, and ends the session. The sink hears all
+// that happens, oldest first. No memory is asked for, so this cannot fail.
+pub fn play_into<R: Register, S: EventSink>(
     number: u32,
     register: R,
     calls: &[Call],
-) -> Result<Vec<Event>, AllocError>
-    ensures history { IfOk result (λ events. Plays (R.Register.meaning register) number calls.now events.items) }
-    ensures played { IfOk result (λ events. calls_of events.items ≡ calls.now) }
+    sink: S,
+) -> GivenBack<R, S>
+    ensures history { (es : List AnEvent)
+        × GivesBack (R.meaning register) number calls.now es (R.meaning result.register)
+        × Heard S.hears sink es result.sink }
+    ensures only { OnePlaying (R.meaning register) number calls.now }
     ensures laws { LawsHold }
     ensures standing { StandingTold }
     ensures once { OneAnswer }
 {
     let (mut session, mut pass) = Session::begin(number, register);
-    let mut log = EventLog::new(heap, number);
+    let mut telling = Telling { pass: number, sink };
     for call in calls {
-        pass = take_turn(&mut session, pass, call, &mut log);
+        pass = take_turn(&mut session, pass, call, &mut telling);
     }
-    log.events
+    let register = session.end(pass).unwrap();
+    let Telling { pass: _, sink } = telling;
+    GivenBack { register, sink }
+}
+
+// The register of the session that was played, and its events, oldest first, where the memory sufficed for all of them.
+#[derive(Drop)]
+pub struct Playback<R> {
+    pub register: R,
+    pub events: Result<Vec<Event>, AllocError>,
+}
+
+// The same with the events in a list.
+pub fn play<R: Register>(heap: Global, number: u32, register: R, calls: &[Call]) -> Playback<R>
+    ensures history { IfOk result.events (λ events. Plays (R.meaning register) number calls.now events.items) }
+    ensures played { IfOk result.events (λ events. calls_of events.items ≡ calls.now) }
+    ensures register { (es : List AnEvent) × GivesBack (R.meaning register) number calls.now es (R.meaning result.register) }
+    ensures only { OnePlaying (R.meaning register) number calls.now }
+    ensures laws { LawsHold }
+    ensures standing { StandingTold }
+    ensures once { OneAnswer }
+{
+    let GivenBack { register, sink } = play_into(number, register, calls, EventLog::new(heap));
+    Playback {
+        register,
+        events: sink.events,
+    }
 }

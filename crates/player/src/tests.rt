@@ -1,12 +1,23 @@
-// A worked list of calls: a notice, two orders that trade across the border, and a withdrawal that is refused.
-use crate::playing::play;
+// A worked list of calls: a notice, two orders that trade across the border, and a withdrawal that is refused; and calls and steps
+// made one by one, some with a pass of another session or over too few places.
+ghost use Rattle.std.specs.Prelude.{◌≡◌, ◌+◌, ◌%◌, ◌^◌, Some};
+
+use crate::playing::{play, play_into};
+use crate::sinks::EventSink;
 use book::rows::{Kind, OrderTerms, Side};
 use capacity::direction::Direction;
 use capacity::figures::Figures;
 use capacity::map::ConnectorMap;
+use capacity::register::Register;
 use events::calls::Call;
 use events::events::Event;
+use events::making::Left;
+use history::carrying::{make, step};
 use session::entries::Entry;
+use session::faults::SessionFault;
+use session::passes::{QuietPass, RoundPass};
+use session::state::Session;
+use std::process::Abort;
 use std::test::Fail;
 
 const CONTRACT: u32 = 3;
@@ -45,11 +56,8 @@ fn notice() -> Call {
     }
 }
 
-#[test]
-fn trade_across_the_border(rt: HostRuntime) -> Result<(), Fail> {
-    let mut map = ConnectorMap::new();
-    let _ = map.connect(0, 1, 0, 0);
-    let calls = [
+fn calls() -> [Call; 4] {
+    [
         notice(),
         order(1, Side::Sell, 0),
         order(2, Side::Buy, 1),
@@ -57,8 +65,19 @@ fn trade_across_the_border(rt: HostRuntime) -> Result<(), Fail> {
             number: 1,
             member: 7,
         },
-    ];
-    let events = play(rt.alloc(), 9, map.into_register(), &calls)?;
+    ]
+}
+
+// Areas 0 and 1 are joined.
+fn border() -> ConnectorMap {
+    let mut map = ConnectorMap::new();
+    let _ = map.connect(0, 1, 0, 0);
+    map
+}
+
+#[test]
+fn trade_across_the_border(rt: HostRuntime) -> Result<(), Fail> {
+    let events = play(rt.alloc(), 9, border().into_register(), &calls()).events?;
     assert!(rt; events.len() == 8);
     match events[5] {
         Event::Stepped {
@@ -84,4 +103,111 @@ fn trade_across_the_border(rt: HostRuntime) -> Result<(), Fail> {
         },
         _ => Err(Fail::new("not refused")),
     }
+}
+
+// A sink that takes no heap: how many events it heard, and the last one.
+#[derive(Clone, Copy)]
+struct Counter {
+    events: u32,
+    last: Option<Event>,
+}
+
+impl EventSink for Counter {
+    ghost hears = { λ a e b. (b.events ≡ (a.events + 1) % 2 ^ 32) × (b.last ≡ Some e) };
+
+    fn hear(&mut self, event: &Event) {
+        self.events = self.events.wrapping_add(1);
+        self.last = Some(*event);
+    }
+}
+
+// What is left of 100 after a trade of 50.
+#[test]
+fn heard_by_a_counter(rt: HostRuntime) -> Result<(), Fail> {
+    let counter = Counter {
+        events: 0,
+        last: None,
+    };
+    let ended = play_into(9, border().into_register(), &calls(), counter);
+    assert_eq!(rt; ended.sink.events, 8);
+    match ended.sink.last {
+        Some(
+            Event::Called {
+                pass: 9,
+                call: Call::Withdraw { .. },
+                answer: Err(fault),
+            },
+        ) => assert_eq!(rt; fault.number(), 9),
+        _ => return Err(Fail::new("not the refused withdrawal")),
+    }
+    let way = Direction {
+        contract: CONTRACT,
+        from: 0,
+        to: 1,
+    };
+    assert_eq!(rt; ended.register.atc(way), Some(50));
+    Ok(())
+}
+
+fn number<T: Drop>(answer: Result<T, SessionFault>) -> Option<u32> {
+    answer.err().map(|fault| fault.number())
+}
+
+fn quiet(rt: &impl Abort, left: Left) -> QuietPass {
+    match left {
+        Left::Quiet(pass) => pass,
+        Left::Round(_pass) => panic!(rt; "a round"),
+    }
+}
+
+fn round(rt: &impl Abort, left: Left) -> RoundPass {
+    match left {
+        Left::Round(pass) => pass,
+        Left::Quiet(_) => panic!(rt; "no round"),
+    }
+}
+
+// Refused by 1 for a pass of another session, and by 15 over too few places, with the same pass back and nothing changed.
+#[test]
+fn foreign_passes_and_few_places(rt: HostRuntime) {
+    let (mut session, pass) = Session::begin(1, border().into_register());
+    let (mut other, foreign) = Session::begin(2, border().into_register());
+    let sell = order(1, Side::Sell, 0);
+    let (answer, left) = make(&mut session, foreign, &sell);
+    assert_eq!(rt; number(answer), Some(1));
+    assert_eq!(rt; session.resting(), 0);
+    let (answer, left) = make(&mut other, quiet(&rt, left), &sell);
+    assert_eq!(rt; number(answer), None);
+    let foreign = round(&rt, left);
+
+    let (answer, left) = make(&mut session, pass, &sell);
+    assert_eq!(rt; number(answer), None);
+    let pass = round(&rt, left);
+    let mut places = [99; 20];
+    let (answer, left) = step(&mut session, foreign, &mut places);
+    assert_eq!(rt; number(answer), Some(1));
+    let foreign = round(&rt, left);
+    let (answer, left) = step(&mut session, pass, &mut places[..15]);
+    assert_eq!(rt; number(answer), Some(15));
+    let (answer, left) = step(&mut session, round(&rt, left), &mut places);
+    assert!(rt; matches!(answer, Ok(None)));
+    assert_eq!(rt; places, [99; 20]);
+
+    let (_, left) = make(&mut session, quiet(&rt, left), &order(2, Side::Buy, 0));
+    let (answer, left) = step(&mut session, round(&rt, left), &mut places);
+    match answer {
+        Ok(Some(traded)) => {
+            assert_eq!(rt; traded.trade.quantity, 50);
+            assert_eq!(rt; traded.route, [0; 16]);
+        }
+        _ => panic!(rt; "no trade"),
+    }
+    assert_eq!(rt; places[0], 0);
+    assert_eq!(rt; places[1], 99);
+    let (_, left) = step(&mut session, round(&rt, left), &mut places);
+    let _ = quiet(&rt, left);
+    let (_, left) = step(&mut other, foreign, &mut places);
+    let _ = quiet(&rt, left);
+    assert_eq!(rt; session.resting(), 0);
+    assert_eq!(rt; other.resting(), 1);
 }

@@ -2,4 +2,5 @@
 pub mod Rows
 pub mod Registers
 pub mod Rounds
+pub mod Lent
 pub mod Trials

@@ -7,6 +7,7 @@ use Rattle.book.specs.declared.rows.Kind.TheVariants.{Non}
 use Rattle.book.specs.declared.rows.Side.{Side}
 use Rattle.book.specs.declared.rows.Side.TheVariants.{Buy, Sell}
 use Rattle.session.specs.declared.entries.Entry.{Entry}
+use Rattle.session.specs.declared.faults.SessionFault.{SessionFault}
 use Rattle.session.specs.declared.faults.SessionFault.TheVariants.{Register}
 use Rattle.session.specs.Rounds.{Logged}
 use Rattle.events.specs.declared.calls.Call.TheVariants.{Enter, Request, Notice}
@@ -28,6 +29,10 @@ entry n a s l = record { number = n; member = 7; contract = 3; area = a; terms =
 abbrev pub accepted : Answer
 accepted = Ok None
 
+-- 100 can still flow, and less than was asked
+abbrev pub short : SessionFault
+short = Register (Short (way 1) (pos 100))
+
 -- 50 from area 1 to area 0, at the limit of the older order
 abbrev pub traded_back : Logged
 traded_back = record {
@@ -42,7 +47,7 @@ grant =
     row (Notice (way 1) hundred) accepted []
     ∷ row (Enter (entry 1 1 Sell (pos 4000))) accepted []
     ∷ row (Enter (entry 2 0 Buy (pos 5000))) accepted []
-    ∷ row (Request (way 1) 101) (Err (Register (Short (way 1) (pos 100)))) []
+    ∷ row (Request (way 1) 101) (Err short) []
     ∷ row (Request (way 1) 100) accepted (traded_back ∷ [])
     ∷ []
 

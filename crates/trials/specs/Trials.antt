@@ -1,6 +1,8 @@
 -- The table of the worked examples.
 use Rattle.std.specs.Prelude.{◌≡◌, ℕ, pos, Some}
+use Rattle.numbers.specs.declared.NumberFault.TheVariants.{Form, Fraction}
 use Rattle.numbers.specs.Examples as numbers
+use Rattle.numbers.specs.Reading.{fault_number}
 use Rattle.capacity.specs.declared.example.Flow.{Flow}
 use Rattle.capacity.specs.Meaning.{Capacity, reserved}
 use Rattle.capacity.specs.Network.{Network}
@@ -8,10 +10,11 @@ use Rattle.capacity.specs.Quotes.{flow_in, told_of, taken_from}
 use Rattle.capacity.specs.Tables.{fresh}
 use Rattle.cells.specs.Meaning.{unnoted}
 use Rattle.routes.specs.Example.{Example}
+use Rattle.session.specs.Faults.{told, number_of}
 use Rattle.book.specs.Examples as book
 use Rattle.trials.specs.Registers.{one_connector, two_connectors, Unused}
 use Rattle.trials.specs.Rows.{Comes}
-use Rattle.trials.specs.Rounds.{grant, border}
+use Rattle.trials.specs.Rounds.{short, grant, border}
 
 abbrev pub flows : ℕ → ℕ → Flow
 flows x y = record { there = Some (pos x); back = Some (pos y) }
@@ -19,6 +22,10 @@ flows x y = record { there = Some (pos x); back = Some (pos y) }
 pub record Trials : Type 0 where
   -- what number words are read as
   pub words : numbers.Examples
+  -- by which number a word without the form is refused, one that means no whole count, and the request for more than can flow
+  pub no_form : fault_number Form ≡ 18
+  pub no_count : fault_number Fraction ≡ 19
+  pub too_much : number_of (told short) ≡ 13
   -- slices of icebergs, and which terms are refused
   pub icebergs : book.Examples
   -- 0, 1, 3 of two ways with three areas

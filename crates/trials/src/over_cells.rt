@@ -1,17 +1,19 @@
 // Calls played over a register in cells that the caller lends, and over a layer on it that keeps more back.
-ghost use Rattle.std.specs.Prelude.{◌≡◌, IfOk, length};
-ghost use Rattle.capacity.specs.Meaning.{reserved};
+ghost use Rattle.std.specs.Prelude.{◌≡◌, IfOk, List, length};
 ghost use Rattle.capacity.specs.Shapes.{network_of};
-ghost use Rattle.cells.specs.Meaning.{unnoted};
-ghost use Rattle.player.specs.Playing.{Plays, calls_of};
+ghost use Rattle.cells.specs.Shapes.{cells_of};
+ghost use Rattle.events.specs.declared.events.Event.{Event as AnEvent};
+ghost use Rattle.player.specs.Playing.{Plays, GivesBack, OnePlaying, calls_of};
+ghost use Rattle.trials.specs.Lent.{lent, lent_kept};
 
 use capacity::map::ConnectorMap;
+use capacity::register::Register;
 use capacity::reserve::Reserve;
 use cells::cell::Cell;
 use cells::register::CellRegister;
 use events::calls::Call;
 use events::events::Event;
-use player::playing::play;
+use player::playing::{Playback, play};
 use std::alloc::{AllocError, Global};
 
 // As many pairs can be noted as there are cells, whatever the cells held.
@@ -21,11 +23,30 @@ pub fn play_over_cells<'a>(
     map: &'a ConnectorMap,
     cells: &'a mut [Cell],
     calls: &[Call],
-) -> Result<Vec<Event>, AllocError>
-    ensures history { IfOk result (λ events. Plays (unnoted (network_of map.now).joins (length cells.old)) number calls.now events.items) }
-    ensures played { IfOk result (λ events. calls_of events.items ≡ calls.now) }
+) -> Playback<CellRegister<'a>>
+    ensures history { IfOk result.events (λ events.
+        Plays (lent (network_of map.now) (length cells.old)) number calls.now events.items) }
+    ensures played { IfOk result.events (λ events. calls_of events.items ≡ calls.now) }
+    ensures register { (es : List AnEvent)
+        × GivesBack (lent (network_of map.now) (length cells.old)) number calls.now es
+        (cells_of result.register) }
+    ensures only { OnePlaying (lent (network_of map.now) (length cells.old)) number calls.now }
 {
     play(heap, number, CellRegister::new(map, cells), calls)
+}
+
+// The register is let go: no proof covers a `Playback` of a layer over lent cells yet.
+fn events_over<R: Register + Drop>(
+    heap: Global,
+    number: u32,
+    register: R,
+    calls: &[Call],
+) -> Result<Vec<Event>, AllocError>
+    ensures history { IfOk result (λ events. Plays (R.meaning register) number calls.now events.items) }
+    ensures played { IfOk result (λ events. calls_of events.items ≡ calls.now) }
+    ensures only { OnePlaying (R.meaning register) number calls.now }
+{
+    play(heap, number, register, calls).events
 }
 
 // The same with what the map keeps back.
@@ -36,9 +57,11 @@ pub fn play_over_kept_cells<'a>(
     cells: &'a mut [Cell],
     calls: &[Call],
 ) -> Result<Vec<Event>, AllocError>
-    ensures history { IfOk result (λ events. Plays (reserved (unnoted (network_of map.now).joins (length cells.old)) (network_of map.now).kept) number calls.now events.items) }
+    ensures history { IfOk result (λ events.
+        Plays (lent_kept (network_of map.now) (length cells.old)) number calls.now events.items) }
     ensures played { IfOk result (λ events. calls_of events.items ≡ calls.now) }
+    ensures only { OnePlaying (lent_kept (network_of map.now) (length cells.old)) number calls.now }
 {
     let below = CellRegister::new(map, cells);
-    play(heap, number, Reserve::new(below, map), calls)
+    events_over(heap, number, Reserve::new(below, map), calls)
 }

@@ -92,7 +92,7 @@ pub fn way_back(heap: Global, number: u32) -> Result<Vec<Event>, AllocError>
     let mut map = ConnectorMap::new();
     let _ = map.connect(0, 1, 0, 0);
     let mut cells = [Cell::new()];
-    play_over_cells(heap, number, &map, &mut cells, &grant_calls())
+    play_over_cells(heap, number, &map, &mut cells, &grant_calls()).events
 }
 
 // The calls of the round that goes across the border.
@@ -117,5 +117,5 @@ pub fn better_price(heap: Global, number: u32) -> Result<Vec<Event>, AllocError>
     let _ = map.connect(0, 1, 0, 0);
     let _ = map.connect(0, 2, 0, 0);
     let mut cells = [Cell::new(), Cell::new()];
-    play_over_cells(heap, number, &map, &mut cells, &border_calls())
+    play_over_cells(heap, number, &map, &mut cells, &border_calls()).events
 }

@@ -1,7 +1,9 @@
 // The worked rounds as they run, and the first with a layer that keeps something back.
-use crate::over_cells::play_over_kept_cells;
+use crate::over_cells::{play_over_cells, play_over_kept_cells};
 use crate::rounds::{better_price, grant_calls, way_back};
+use capacity::direction::Direction;
 use capacity::map::ConnectorMap;
+use capacity::register::Register;
 use cells::cell::Cell;
 use events::events::{Event, Traded};
 use std::test::Fail;
@@ -42,6 +44,22 @@ fn grant_opens_the_way_back(rt: HostRuntime) -> Result<(), Fail> {
     assert_eq!(rt; made.route[1], 0);
     assert!(rt; traded(events[9]).is_none());
     Ok(())
+}
+
+// 100 were granted there and 50 traded back, so 50 are left either way.
+#[test]
+fn register_comes_back(rt: HostRuntime) {
+    let mut map = ConnectorMap::new();
+    let _ = map.connect(0, 1, 0, 0);
+    let mut cells = [Cell::new()];
+    let register = play_over_cells(rt.alloc(), 7, &map, &mut cells, &grant_calls()).register;
+    let way = Direction {
+        contract: 3,
+        from: 0,
+        to: 1,
+    };
+    assert_eq!(rt; register.atc(way), Some(50));
+    assert_eq!(rt; register.atc(way.back()), Some(50));
 }
 
 #[test]
