@@ -96,7 +96,6 @@ impl Book {
         ensures answer { told result ≡ append_refusal (orders self.old) }
         ensures after { orders self.new ≡ appended (orders self.old) order }
         ensures orderly { Orderly (orders self.old) → Fit order → place (numbered order.number) (orders self.old) ≡ None → Orderly (orders self.new) }
-        ensures iced { AllByRecursion Iced (orders self.old) → Iced order → AllByRecursion Iced (orders self.new) }
     {
         let n = self.len();
         if n < PLACES {

@@ -25,7 +25,7 @@ impl Book {
         }
     }
 
-    // Takes the row at `at`, which has run out, from its place: with its next slice it is the newest, and without one it leaves.
+    // Renews the order at `at`, which has run out: with its next slice it becomes the newest, without one it leaves.
     fn renew_at(&mut self, at: usize)
         requires { at < length (orders self.old) }
         ensures after { orders self.new ≡ without (orders self.old) at ++ renewal (order_at (orders self.old) at) }
@@ -39,6 +39,7 @@ impl Book {
     }
 
     // Keeps what shows in its place; of what has run out the next slices become the newest, the older order's first.
+    // As many steps as there were orders, so that a next slice is not looked at again.
     fn renew(&mut self)
         ensures after { orders self.new ≡ renewed_by renewable (orders self.old) }
         ensures iced { AllByRecursion IcedIfShown (orders self.old) → AllByRecursion Iced (orders self.new) }
