@@ -53,8 +53,29 @@ for script in samples/*.ctm; do
         program "$sample" 0 "$sample.out" /dev/null "$script"
     fi
 done
+# A script of as many bytes as one may have: 1,310 times an iceberg of 1 MW is traded away in tenths of a MW, and then an
+# order rests whose last word is drawn out to the byte. With one byte more it is too long, and nothing of it is run.
+awk 'BEGIN {
+    print "CTM 1"
+    for (i = 0; i < 1310; i++) print "E 1 1 0 S 0 ICE 1 1 0.1 0\nE 2 1 0 B 0 NON 1 1 0 0"
+    printf "E 3 1 0 B 0 NON 1 1 0 0.000000"
+}' >"$work/longest"
+awk 'BEGIN {
+    print "CTM 1"
+    for (i = 0; i < 1310; i++) {
+        print "Q 1"
+        for (slice = 0; slice < 10; slice++) print "T 0 2 1 1.00 0.1 0"
+        print "Q 0"
+    }
+    print "Q 1"
+}' >"$work/out"
+{ cat "$work/longest" && echo; } >"$work/overlong"
+if [ "$(wc -c <"$work/longest")" -ne 65536 ] || [ "$(wc -c <"$work/overlong")" -ne 65537 ]; then
+    failed=$((failed + 1))
+    echo "test.sh: the longest script has not 65,536 bytes"
+fi
+program "the longest script" 0 "$work/out" /dev/null "$work/longest"
 printf 'CTM 1\nR 0 17 0\n' >"$work/out"
-head -c 65537 /dev/zero >"$work/overlong"
 program "an overlong script" 0 "$work/out" /dev/null "$work/overlong"
 echo "Error: the views of contract 24 are refused by 2" >"$work/err"
 program "views of no contract" 1 samples/trade.out "$work/err" --views 24 samples/trade.ctm
