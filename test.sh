@@ -53,8 +53,29 @@ for script in samples/*.ctm; do
         program "$sample" 0 "$sample.out" /dev/null "$script"
     fi
 done
+# A script of as many bytes as one may have: over and over an iceberg of 999.9 MW is traded away in 200 slices, and the last
+# line's word is drawn out to the byte. With one byte more it is too long, and nothing of it is run.
+awk 'BEGIN {
+    print "CTM 1"
+    for (i = 0; i < 1170; i++) print "E 1 1 0 S 0 ICE 1 999.9 5 0\nE 2 1 0 B 0 NON 1 999.9 0 0"
+    printf "K 5.000000"
+}' >"$work/longest"
+awk 'BEGIN {
+    print "CTM 1"
+    for (i = 0; i < 1170; i++) {
+        print "Q 1"
+        for (slice = 1; slice < 200; slice++) print "T 0 2 1 1.00 5.0 0"
+        print "T 0 2 1 1.00 4.9 0\nQ 0"
+    }
+    print "Q 0"
+}' >"$work/out"
+{ cat "$work/longest" && echo; } >"$work/overlong"
+if [ "$(wc -c <"$work/longest")" -ne 65536 ] || [ "$(wc -c <"$work/overlong")" -ne 65537 ]; then
+    failed=$((failed + 1))
+    echo "test.sh: the longest script has not 65,536 bytes"
+fi
+program "the longest script" 0 "$work/out" /dev/null "$work/longest"
 printf 'CTM 1\nR 0 17 0\n' >"$work/out"
-head -c 65537 /dev/zero >"$work/overlong"
 program "an overlong script" 0 "$work/out" /dev/null "$work/overlong"
 echo "Error: the views of contract 24 are refused by 2" >"$work/err"
 program "views of no contract" 1 samples/trade.out "$work/err" --views 24 samples/trade.ctm

@@ -7,8 +7,8 @@ mod arguments;
 use anyhow::anyhow;
 use arguments::{Asked, arguments};
 use reading::reader::calls::SCRIPT_MOST;
-use runs::run::{Market, run};
-use screens::faults::ScreenFault;
+use reading::text::TextLog;
+use runs::run::{Market, Ran, run};
 use screens::screen::screen;
 use std::fs::File;
 use std::io::{Read, Write};
@@ -32,24 +32,23 @@ fn read_script(rt: &HostRuntime, path: Option<String>) -> anyhow::Result<Vec<u8>
 
 // Shows the views of a contract as they are after the run.
 fn show_views(rt: &HostRuntime, session: &Market, contract: u32) -> anyhow::Result<()> {
-    let text = match screen(rt.alloc(), session, contract) {
-        Ok(text) => text,
-        Err(ScreenFault::Refused(fault)) => {
-            let number = fault.number();
-            return Err(anyhow!("the views of contract {contract} are refused by {number}"));
-        }
-        Err(ScreenFault::Memory(fault)) => return Err(fault.into()),
-    };
-    rt.stderr().write_all(text.as_bytes())?;
+    let mut shown = TextLog::new(rt.alloc());
+    if let Err(fault) = screen(session, contract, &mut shown) {
+        let number = fault.number();
+        return Err(anyhow!("the views of contract {contract} are refused by {number}"));
+    }
+    let text = shown.into_text()?;
+    rt.stderr().write_all(text.as_slice())?;
     Ok(())
 }
 
 fn main(rt: HostRuntime) -> anyhow::Result<()> {
     let Asked { views, script } = arguments(&rt)?;
     let bytes = read_script(&rt, script)?;
-    let ran = run(rt.alloc(), bytes.as_slice())?;
-    rt.stdout().write_all(ran.output.as_bytes())?;
-    if let (Some(contract), Some(session)) = (views, &ran.session) {
+    let Ran { output, session } = run(bytes.as_slice(), TextLog::new(rt.alloc()));
+    let text = output.into_text()?;
+    rt.stdout().write_all(text.as_slice())?;
+    if let (Some(contract), Some(session)) = (views, &session) {
         show_views(&rt, session, contract)?;
     }
     Ok(())
