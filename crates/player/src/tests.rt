@@ -9,16 +9,21 @@ use capacity::direction::Direction;
 use capacity::figures::Figures;
 use capacity::map::ConnectorMap;
 use capacity::register::Register;
+use capacity::reserve::Reserve;
+use capacity::table::FullTable;
 use events::calls::Call;
 use events::events::Event;
 use events::making::Left;
 use history::carrying::{make, step};
+use routes::ROUTE_PLACES;
 use session::entries::Entry;
 use session::faults::SessionFault;
 use session::passes::{QuietPass, RoundPass};
 use session::state::Session;
 use std::process::Abort;
 use std::test::Fail;
+
+type Market = Session<Reserve<FullTable>>;
 
 const CONTRACT: u32 = 3;
 
@@ -167,33 +172,59 @@ fn round(rt: &impl Abort, left: Left) -> RoundPass {
     }
 }
 
-// Refused by 1 for a pass of another session, and by 15 over too few places, with the same pass back and nothing changed.
-#[test]
-fn foreign_passes_and_few_places(rt: HostRuntime) {
-    let (mut session, pass) = Session::begin(1, border().into_register());
-    let (mut other, foreign) = Session::begin(2, border().into_register());
-    let sell = order(1, Side::Sell, 0);
-    let (answer, left) = make(&mut session, foreign, &sell);
-    assert_eq!(rt; number(answer), Some(1));
-    assert_eq!(rt; session.resting(), 0);
-    let (answer, left) = make(&mut other, quiet(&rt, left), &sell);
-    assert_eq!(rt; number(answer), None);
-    let foreign = round(&rt, left);
+// A session over the border, and the pass of the round that its first order began.
+fn begun(rt: &impl Abort, number: u32) -> (Market, RoundPass) {
+    let (mut session, pass) = Session::begin(number, border().into_register());
+    let (_, left) = make(&mut session, pass, &order(1, Side::Sell, 0));
+    (session, round(rt, left))
+}
 
-    let (answer, left) = make(&mut session, pass, &sell);
-    assert_eq!(rt; number(answer), None);
-    let pass = round(&rt, left);
+// The last step of a round.
+fn done(rt: &impl Abort, session: &mut Market, pass: RoundPass) -> QuietPass {
+    let mut places = [0; ROUTE_PLACES];
+    let (answer, left) = step(session, pass, &mut places);
+    assert!(rt; matches!(answer, Ok(None)));
+    quiet(rt, left)
+}
+
+// A pass of another session is refused by 1 and comes back, and nothing changes.
+#[test]
+fn passes_of_another_session(rt: HostRuntime) {
+    let (mut session, pass) = begun(&rt, 1);
+    let (mut other, foreign) = begun(&rt, 2);
     let mut places = [99; 20];
     let (answer, left) = step(&mut session, foreign, &mut places);
     assert_eq!(rt; number(answer), Some(1));
-    let foreign = round(&rt, left);
-    let (answer, left) = step(&mut session, pass, &mut places[..15]);
-    assert_eq!(rt; number(answer), Some(15));
-    let (answer, left) = step(&mut session, round(&rt, left), &mut places);
-    assert!(rt; matches!(answer, Ok(None)));
     assert_eq!(rt; places, [99; 20]);
+    let foreign = done(&rt, &mut other, round(&rt, left));
+    done(&rt, &mut session, pass);
+    let (answer, left) = make(&mut session, foreign, &order(2, Side::Buy, 0));
+    assert_eq!(rt; number(answer), Some(1));
+    assert_eq!(rt; session.resting(), 1);
+    let close = Call::Close { contract: CONTRACT };
+    let (answer, left) = make(&mut other, quiet(&rt, left), &close);
+    assert!(rt; matches!(answer, Ok(Some(1))));
+    let _ = quiet(&rt, left);
+}
 
-    let (_, left) = make(&mut session, quiet(&rt, left), &order(2, Side::Buy, 0));
+// A step over 15 places is refused by 15.
+#[test]
+fn too_few_places(rt: HostRuntime) {
+    let (mut session, pass) = begun(&rt, 1);
+    let mut places = [99; 15];
+    let (answer, left) = step(&mut session, pass, &mut places);
+    assert_eq!(rt; number(answer), Some(15));
+    assert_eq!(rt; places, [99; 15]);
+    done(&rt, &mut session, round(&rt, left));
+}
+
+// Over 20 places the route of one area fills the first.
+#[test]
+fn more_places_than_a_route(rt: HostRuntime) {
+    let (mut session, pass) = begun(&rt, 1);
+    let pass = done(&rt, &mut session, pass);
+    let (_, left) = make(&mut session, pass, &order(2, Side::Buy, 0));
+    let mut places = [99; 20];
     let (answer, left) = step(&mut session, round(&rt, left), &mut places);
     match answer {
         Ok(Some(traded)) => {
@@ -204,10 +235,7 @@ fn foreign_passes_and_few_places(rt: HostRuntime) {
     }
     assert_eq!(rt; places[0], 0);
     assert_eq!(rt; places[1], 99);
-    let (_, left) = step(&mut session, round(&rt, left), &mut places);
-    let _ = quiet(&rt, left);
-    let (_, left) = step(&mut other, foreign, &mut places);
-    let _ = quiet(&rt, left);
+    assert_eq!(rt; places[19], 99);
+    done(&rt, &mut session, round(&rt, left));
     assert_eq!(rt; session.resting(), 0);
-    assert_eq!(rt; other.resting(), 1);
 }
