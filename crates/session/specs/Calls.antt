@@ -95,6 +95,10 @@ Asked a t s p c ts m = (a ≡ answered (asking_tests s p c ts)) × (t ≡ result
 abbrev pub AnswersBy : {R : Type 0} → (R → Capacity) → (R → Result (Unit {0}) RegisterFault → R → Type 0) → R → List (Bool × register.Refusal) → Capacity → Type 0
 AnswersBy {R} meaning calls r ts m = (a : Result (Unit {0}) RegisterFault) (r' : R) → calls r a r' → (said register.told a ≡ answered ts) × (meaning r' ≡ resulting ts (meaning r) m)
 
+-- whatever a call gives of a register r, it leaves of its memory what calls may leave
+abbrev pub LeavesBy : {R : Type 0} → (R → Result (Unit {0}) RegisterFault → R → Type 0) → (R → R → Type 0) → R → Type 0
+LeavesBy {R} calls leaves r = (a : Result (Unit {0}) RegisterFault) (r' : R) → calls r a r' → leaves r r'
+
 abbrev pub request_tests : State → ℕ → ℕ → ℕ → ℕ → ℕ → List Test
 request_tests s p c a b q = asking_tests s p c (take_tests s.capacity c a b q)
 

@@ -26,6 +26,10 @@ module _ {R : Type 0} (meaning : R → Capacity) where
     capacity = meaning s.register;
   }
 
+-- the register itself, with all the memory that it stands in
+abbrev pub register_of : {R : Type 0} → Session R → R
+register_of s = s.register
+
 -- a session as it is begun
 abbrev pub fresh : ℕ → Capacity → State
 fresh n m = record { number = n; round = None; closed = λ c. false; book = []; capacity = m }

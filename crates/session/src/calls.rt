@@ -1,6 +1,6 @@
 // The calls on a session.
-ghost use Rattle.std.specs.Prelude.{◌≡◌, ◌≤◌, length};
-ghost use Rattle.session.specs.State.{state, fresh};
+ghost use Rattle.std.specs.Prelude.{◌≡◌, ◌≤◌, length, MatchResult};
+ghost use Rattle.session.specs.State.{state, fresh, register_of};
 ghost use Rattle.session.specs.Calls.{answer, begun, kept, shut, counted, requesting, noticing, withdrawing, closing, entering, changing, ended, ending};
 
 use crate::entries::{Change, Entry};
@@ -16,6 +16,7 @@ impl<R: Register> Session<R> {
     pub fn begin(number: u32, register: R) -> (Session<R>, QuietPass)
         ensures after { state R.Register.meaning result.0 ≡ fresh number (R.Register.meaning register) }
         ensures pass { result.1.number ≡ number }
+        ensures register { register_of result.0 ≡ register }
     {
         let session = Session {
             number,
@@ -46,6 +47,7 @@ impl<R: Register> Session<R> {
         ensures answer { answer result ≡ (requesting (state R.Register.meaning self.old) pass.number direction.contract direction.from direction.to quantity).0 }
         ensures after { state R.Register.meaning self.new ≡ (requesting (state R.Register.meaning self.old) pass.number direction.contract direction.from direction.to quantity).1 }
         ensures pass { begun result ≡ pass.number }
+        ensures memory { R.leaves (register_of self.old) (register_of self.new) }
     {
         let checked = self.ask(pass.number, direction, |register| {
             register.take(direction, quantity)
@@ -63,6 +65,7 @@ impl<R: Register> Session<R> {
         ensures answer { answer result ≡ (noticing (state R.Register.meaning self.old) pass.number direction.contract direction.from direction.to figures).0 }
         ensures after { state R.Register.meaning self.new ≡ (noticing (state R.Register.meaning self.old) pass.number direction.contract direction.from direction.to figures).1 }
         ensures pass { begun result ≡ pass.number }
+        ensures memory { R.leaves (register_of self.old) (register_of self.new) }
     {
         let checked = self.ask(pass.number, direction, |register| {
             register.notice(direction, figures)
@@ -80,6 +83,7 @@ impl<R: Register> Session<R> {
         ensures answer { answer result ≡ (withdrawing (state R.Register.meaning self.old) pass.number number member).0 }
         ensures after { state R.Register.meaning self.new ≡ (withdrawing (state R.Register.meaning self.old) pass.number number member).1 }
         ensures pass { kept result ≡ pass.number }
+        ensures register { register_of self.new ≡ register_of self.old }
     {
         let checked = self.strike(pass.number, number, member);
         let (_, pass) = with_pass(checked, pass)?;
@@ -91,6 +95,7 @@ impl<R: Register> Session<R> {
         ensures answer { counted result ≡ (closing (state R.Register.meaning self.old) pass.number contract).0 }
         ensures after { state R.Register.meaning self.new ≡ (closing (state R.Register.meaning self.old) pass.number contract).1 }
         ensures pass { shut result ≡ pass.number }
+        ensures register { register_of self.new ≡ register_of self.old }
     {
         let checked = self.check_closing(pass.number, contract);
         let (_, pass) = with_pass(checked, pass)?;
@@ -104,6 +109,7 @@ impl<R: Register> Session<R> {
         ensures answer { answer result ≡ (entering (state R.Register.meaning self.old) pass.number entry.now).0 }
         ensures after { state R.Register.meaning self.new ≡ (entering (state R.Register.meaning self.old) pass.number entry.now).1 }
         ensures pass { begun result ≡ pass.number }
+        ensures register { register_of self.new ≡ register_of self.old }
     {
         let checked = self.admit(pass.number, entry);
         pass.into_round(checked)
@@ -118,6 +124,7 @@ impl<R: Register> Session<R> {
         ensures answer { answer result ≡ (changing (state R.Register.meaning self.old) pass.number change.now.number change.now.member change.now.limit change.now.quantity).0 }
         ensures after { state R.Register.meaning self.new ≡ (changing (state R.Register.meaning self.old) pass.number change.now.number change.now.member change.now.limit change.now.quantity).1 }
         ensures pass { begun result ≡ pass.number }
+        ensures register { register_of self.new ≡ register_of self.old }
     {
         let checked = self.alter(pass.number, change);
         pass.into_round(checked)
@@ -125,7 +132,8 @@ impl<R: Register> Session<R> {
 
     // Ends a quiet session and gives its register back; refused, the session comes back with the pass.
     pub fn end(self, pass: QuietPass) -> Result<R, (Session<R>, Refused<QuietPass>)>
-        ensures { ended R.Register.meaning result ≡ ending (state R.Register.meaning self) pass.number }
+        ensures ended { ended R.Register.meaning result ≡ ending (state R.Register.meaning self) pass.number }
+        ensures register { MatchResult result (λ r. r ≡ register_of self) (λ e. register_of e.0 ≡ register_of self) }
     {
         let checked = self.check_quiet(pass.number);
         // a match: each case moves the session, which `map_err` and `?` cannot

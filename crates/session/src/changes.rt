@@ -5,7 +5,7 @@ ghost use Rattle.book.specs.Places.{orders, place, without, numbered_of};
 ghost use Rattle.book.specs.Ranks.{order_at};
 ghost use Rattle.capacity.specs.Tests.{answered, said};
 ghost use Rattle.session.specs.Faults.{told};
-ghost use Rattle.session.specs.State.{state};
+ghost use Rattle.session.specs.State.{state, register_of};
 ghost use Rattle.session.specs.Calls.{terms_with, change_tests, changing};
 
 use crate::entries::Change;
@@ -62,6 +62,7 @@ impl<R: Register> Session<R> {
     pub(crate) fn alter(&mut self, pass: u32, change: &Change) -> Result<(), SessionFault>
         ensures answer { said told result ≡ (changing (state R.Register.meaning self.old) pass change.now.number change.now.member change.now.limit change.now.quantity).0 }
         ensures after { state R.Register.meaning self.new ≡ (changing (state R.Register.meaning self.old) pass change.now.number change.now.member change.now.limit change.now.quantity).1 }
+        ensures register { register_of self.new ≡ register_of self.old }
     {
         let (at, old) = self.check_change(pass, change)?;
         let terms = change.terms_of(&old);

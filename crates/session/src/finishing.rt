@@ -1,6 +1,6 @@
 // A round stepped to its end, with each trade handed to the caller.
 ghost use Rattle.std.specs.Prelude.{◌≡◌};
-ghost use Rattle.session.specs.State.{state};
+ghost use Rattle.session.specs.State.{state, register_of};
 ghost use Rattle.session.specs.Rounds.{Logged, Finished, finished_pass};
 
 use crate::passes::{QuietPass, Refused, RoundPass};
@@ -29,6 +29,7 @@ impl<R: Register> Session<R> {
     ) -> Result<QuietPass, Refused<RoundPass>>
         ensures ran { Finished L.TradeLog.notes (state R.Register.meaning self.old) pass.number log.old result log.new (state R.Register.meaning self.new) }
         ensures pass { finished_pass result ≡ pass.number }
+        ensures memory { R.leaves (register_of self.old) (register_of self.new) }
     {
         let mut places = [0u32; ROUTE_PLACES];
         let mut pass = pass;

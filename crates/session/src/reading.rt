@@ -3,7 +3,7 @@ ghost use Rattle.std.specs.Prelude.{◌≡◌, [], ◌∷◌};
 ghost use Rattle.book.specs.Places.{orders};
 ghost use Rattle.capacity.specs.Tests.{answered, said};
 ghost use Rattle.session.specs.Faults.{told};
-ghost use Rattle.session.specs.State.{state};
+ghost use Rattle.session.specs.State.{state, register_of};
 ghost use Rattle.session.specs.Calls.{contract_test, closed_test, area_test};
 
 use crate::checks::{check_area, check_contract};
@@ -20,7 +20,8 @@ impl<R: Register> Session<R> {
     }
 
     pub fn register(&self) -> &R
-        ensures { R.Register.meaning result.now ≡ (state R.Register.meaning self.now).capacity }
+        ensures meaning { R.Register.meaning result.now ≡ (state R.Register.meaning self.now).capacity }
+        ensures register { result.now ≡ register_of self.now }
     {
         &self.register
     }

@@ -7,7 +7,7 @@ ghost use Rattle.matching.specs.declared.round.Round.{Round as ARound};
 ghost use Rattle.routes.specs.Listed.{listed};
 ghost use Rattle.trades.specs.Deals.{Deals};
 ghost use Rattle.session.specs.Faults.{told};
-ghost use Rattle.session.specs.State.{state};
+ghost use Rattle.session.specs.State.{state, register_of};
 ghost use Rattle.session.specs.Steps.{step_tests, after_trade, after_round, rested, Stepped, stepped_pass, OnlyStep};
 
 use crate::checks::refuse_if;
@@ -46,7 +46,8 @@ impl<R: Register> Session<R> {
     // Takes the trade's quantity along its route, and off both orders.
     fn settle(&mut self, deal: &Deal)
         requires { (r : ARound) × Deals (state R.Register.meaning self.old).capacity (state R.Register.meaning self.old).book r deal.now.trade (listed deal.now.route) }
-        ensures { state R.Register.meaning self.new ≡ after_trade (state R.Register.meaning self.old) deal.now.trade (listed deal.now.route) }
+        ensures after { state R.Register.meaning self.new ≡ after_trade (state R.Register.meaning self.old) deal.now.trade (listed deal.now.route) }
+        ensures memory { R.leaves (register_of self.old) (register_of self.new) }
     {
         let trade = deal.trade;
         carry(
@@ -60,7 +61,8 @@ impl<R: Register> Session<R> {
 
     // Ends the round: an incoming IOC is dropped, and the session is quiet.
     fn finish(&mut self, round: Round)
-        ensures { state R.Register.meaning self.new ≡ after_round (state R.Register.meaning self.old) round }
+        ensures after { state R.Register.meaning self.new ≡ after_round (state R.Register.meaning self.old) round }
+        ensures register { register_of self.new ≡ register_of self.old }
     {
         rest(&mut self.book, round);
         self.round = None;
@@ -71,6 +73,7 @@ impl<R: Register> Session<R> {
         ensures step { Stepped (state R.Register.meaning self.old) pass.number places.old result places.new (state R.Register.meaning self.new) }
         ensures pass { stepped_pass result ≡ pass.number }
         ensures only { OnlyStep (state R.Register.meaning self.old) pass.number places.old result places.new (state R.Register.meaning self.new) }
+        ensures memory { R.leaves (register_of self.old) (register_of self.new) }
     {
         let checked = self.check_round(pass.number, places.len());
         let (round, pass) = with_pass(checked, pass)?;

@@ -5,8 +5,8 @@ ghost use Rattle.capacity.specs.Faults.{Refusal};
 ghost use Rattle.capacity.specs.Meaning.{Capacity};
 ghost use Rattle.capacity.specs.Tests.{answered, said};
 ghost use Rattle.session.specs.Faults.{told};
-ghost use Rattle.session.specs.State.{state};
-ghost use Rattle.session.specs.Calls.{AnswersBy, Asked, withdrawing, entering, close_tests, entry_checks};
+ghost use Rattle.session.specs.State.{state, register_of};
+ghost use Rattle.session.specs.Calls.{AnswersBy, Asked, LeavesBy, withdrawing, entering, close_tests, entry_checks};
 
 use crate::entries::Entry;
 use crate::faults::SessionFault;
@@ -26,7 +26,8 @@ impl<R: Register> Session<R> {
         call: F,
     ) -> Result<(), SessionFault>
         requires { F.IsAlwaysCallable call }
-        ensures { (ts : List (Bool × Refusal)) (m : Capacity) → AnswersBy R.Register.meaning (FnOnceReturnsAtMut F.FnOnce call) self.old.register ts m → Asked (said told result) (state R.Register.meaning self.new) (state R.Register.meaning self.old) pass direction.contract ts m }
+        ensures asked { (ts : List (Bool × Refusal)) (m : Capacity) → AnswersBy R.Register.meaning (FnOnceReturnsAtMut F.FnOnce call) self.old.register ts m → Asked (said told result) (state R.Register.meaning self.new) (state R.Register.meaning self.old) pass direction.contract ts m }
+        ensures memory { LeavesBy (FnOnceReturnsAtMut F.FnOnce call) R.leaves (register_of self.old) → R.leaves (register_of self.old) (register_of self.new) }
     {
         self.check_quiet(pass)?;
         let contract = direction.contract;
@@ -40,6 +41,7 @@ impl<R: Register> Session<R> {
     pub(crate) fn strike(&mut self, pass: u32, number: u32, member: u32) -> Result<(), SessionFault>
         ensures answer { said told result ≡ (withdrawing (state R.Register.meaning self.old) pass number member).0 }
         ensures after { state R.Register.meaning self.new ≡ (withdrawing (state R.Register.meaning self.old) pass number member).1 }
+        ensures register { register_of self.new ≡ register_of self.old }
     {
         self.check_quiet(pass)?;
         let at = self.check_known(number, member)?;
@@ -69,6 +71,7 @@ impl<R: Register> Session<R> {
     pub(crate) fn admit(&mut self, pass: u32, entry: &Entry) -> Result<(), SessionFault>
         ensures answer { said told result ≡ (entering (state R.Register.meaning self.old) pass entry.now).0 }
         ensures after { state R.Register.meaning self.new ≡ (entering (state R.Register.meaning self.old) pass entry.now).1 }
+        ensures register { register_of self.new ≡ register_of self.old }
     {
         self.check_entry(pass, entry)?;
         let contract = entry.contract;

@@ -1,5 +1,5 @@
 -- An entry: refused by its tests, or made the newest order.
-use Rattle.std.proofs.Common.{[], ◌∷◌, ◌++◌, Err, ap, ◌∙◌}
+use Rattle.std.proofs.Common.{[], ◌∷◌, ◌++◌, Err, refl, ap, ◌∙◌}
 use mathlib.Core.Logic.{∥∥₁_map}
 use Rattle.std.proofs.lemmas.Result.{err_from_is_err_and}
 use Rattle.capacity.specs.Tests.{said}
@@ -18,7 +18,7 @@ returns-in_err-check_entry g c =
     let ts = entry_checks s c.args.pass c.args.entry.now in
     let p = err_from_is_err_and c.from_residual.result c.from_residual.ensures.1 in
     let e = refused_on ts (full_test s ∷ []) _ c.in_err-check_entry.ensures in
-    record { answer = ap (said told) (p.1 ∙ ap Err p.2) ∙ e; after = refused_resulting (ts ++ full_test s ∷ []) _ s (after_entry s c.args.entry.now) e }
+    record { answer = ap (said told) (p.1 ∙ ap Err p.2) ∙ e; after = refused_resulting (ts ++ full_test s ∷ []) _ s (after_entry s c.args.entry.now) e; register = refl }
 
 pub invariant_of-self-2 : goal.invariant_of-self-2
 invariant_of-self-2 g c =

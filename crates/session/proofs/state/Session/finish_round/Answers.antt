@@ -17,10 +17,11 @@ loop-trade-preserved g c =
     let i = c.loop-trade.invariant in
     let long : length c.step.new.places ≡ 16 = omega (arith, i.0) in
     let noted = subst (λ (r : List ℕ). g.L.TradeLog.notes c.loop-trade.log (record { trade = c.in-Traded.trade; route = r }) c.note.new.self) (areas_are _ _ _ _ _ st.1) c.note.ensures in
-    (long, pass ∙ i.1, trades_on g.L.TradeLog.notes _ _ _ _ _ _ _ _ _ _ _ i.2 i.1 st.0 st.1 noted)
+    let memory = g.R.Register.chains.next _ _ _ i.1 c.in_ok-trade.ensures.memory in
+    (long, memory, pass ∙ i.2, trades_on g.L.TradeLog.notes _ _ _ _ _ _ _ _ _ _ _ i.3 i.2 st.0 st.1 noted)
 
 pub returns-in-Done-clause-ran : goal.returns-in-Done-clause-ran
 returns-in-Done-clause-ran g c =
     let st = rw c.in-Done.is at c.in_ok-trade.ensures.step in
     let i = c.loop-trade.invariant in
-    ends_so g.L.TradeLog.notes _ _ _ (length c.loop-trade.places) _ _ _ _ i.2 i.1 st.0 st.1
+    ends_so g.L.TradeLog.notes _ _ _ (length c.loop-trade.places) _ _ _ _ i.3 i.2 st.0 st.1

@@ -9,5 +9,5 @@ pub returns : goal.returns
 returns g c =
     let s : State = state g.R.Register.meaning c.args.self.now in
     let d = c.args.direction in
-    let asked = c.ask-checked.ensures (notice_tests s.capacity d.contract d.from d.to c.args.figures) (noticed s.capacity d.contract d.from d.to c.args.figures) (λ a r h. search rules) in
-    record { answer = c.into_round.ensures.answer ∙ asked.0; after = asked.1; pass = c.into_round.ensures.pass }
+    let asked = c.ask-checked.ensures.asked (notice_tests s.capacity d.contract d.from d.to c.args.figures) (noticed s.capacity d.contract d.from d.to c.args.figures) (λ a r h. search rules) in
+    record { answer = c.into_round.ensures.answer ∙ asked.0; after = asked.1; pass = c.into_round.ensures.pass; memory = c.ask-checked.ensures.memory (λ a r h. search rules) }

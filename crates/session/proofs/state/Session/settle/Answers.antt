@@ -16,4 +16,7 @@ returns g c =
     let over : List Order → Capacity → State = λ os m. record { number = s.number; round = s.round; closed = s.closed; book = os; capacity = m } in
     let book = by_order c.args.self.now.orderly (λ h. c.trade.ensures.after h.fit) in
     let taken = (c.carry.ensures.traded _ _ _ (deal_carries s.capacity s.book c.requires.0 _ _ c.args.self.now.orderly c.requires.1)).granted in
-    ap (λ (os : List Order). over os (g.R.Register.meaning c.carry.new.register)) book ∙ ap (over _) taken
+    record {
+      after = ap (λ (os : List Order). over os (g.R.Register.meaning c.carry.new.register)) book ∙ ap (over _) taken;
+      memory = c.carry.ensures.memory;
+    }
