@@ -59,7 +59,8 @@ pub struct Playback<R> {
 pub fn play<R: Register>(heap: Global, number: u32, register: R, calls: &[Call]) -> Playback<R>
     ensures history { IfOk result.events (λ events. Plays (R.meaning register) number calls.now events.items) }
     ensures played { IfOk result.events (λ events. calls_of events.items ≡ calls.now) }
-    ensures register { (es : List AnEvent) × GivesBack (R.meaning register) number calls.now es (R.meaning result.register) }
+    ensures register { (es : List AnEvent)
+        × GivesBack (R.meaning register) number calls.now es (R.meaning result.register) }
     ensures only { OnePlaying (R.meaning register) number calls.now }
     ensures laws { LawsHold }
     ensures standing { StandingTold }
