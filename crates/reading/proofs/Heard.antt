@@ -3,7 +3,7 @@ use Rattle.std.proofs.Common.{◌≡◌, ℕ, ◌+◌, ◌<◌, List, [], ◌∷
 use Rattle.std.proofs.lemmas.List.{take_more, map-append}
 use Rattle.numbers.specs.Printing.{shown}
 use Rattle.reading.specs.Printing.{Number, Line, numbers_text, line_text, lines_text}
-use Rattle.reading.specs.Sinks.{Whole}
+use Rattle.reading.specs.Sinks.{Hearing, Whole}
 
 pub numbers_text_append : (xs ys : List Number) → numbers_text (xs ++ ys) ≡ numbers_text xs ++ numbers_text ys
 numbers_text_append [] ys = refl
@@ -15,7 +15,7 @@ pub lines_text_append : (xs ys : List Line) → lines_text (xs ++ ys) ≡ lines_
 lines_text_append [] ys = refl
 lines_text_append (x ∷ xs) ys = ap (λ (t : List ℕ). line_text x ++ t) (lines_text_append xs ys) ∙ sym (append_assoc (line_text x) (lines_text xs) (lines_text ys))
 
-module _ {S : Type 0} (hears : S → List ℕ → S → Type 0) (whole : Whole hears) where
+module _ {S : Type 0} (hears : Hearing S) (whole : Whole hears) where
   -- the same text by another equation
   pub heard_as : (s t : S) (a b : List ℕ) → a ≡ b → hears s a t → hears s b t
   heard_as s t a b e = subst (λ (x : List ℕ). hears s x t) e

@@ -1,13 +1,14 @@
 // What text is written to, in parts, and a text on the heap that hears it.
-ghost use Rattle.std.specs.Prelude.{◌≡◌, ℕ, List, [], Some};
-ghost use Rattle.reading.specs.Sinks.{Whole, heard, Hears, log_whole};
+ghost use Rattle.std.specs.Prelude.{◌≡◌, [], Some};
+ghost use Rattle.reading.specs.Logs.{heard, Hears, log_whole};
+ghost use Rattle.reading.specs.Sinks.{Hearing, Whole};
 
 use std::alloc::{AllocError, Global};
 
 /// What hears text, in parts.
 pub trait TextSink {
     // what hearing a text makes of it; one that can fail says so here
-    ghost hears: { Self → List ℕ → Self → Type 0 };
+    ghost hears: { Hearing Self };
 
     // however a text is cut, it is heard as the whole
     ghost whole: { Whole hears };

@@ -2,14 +2,14 @@
 use Rattle.std.proofs.Common.{ℕ, suc, ◌+◌, List, [], ◌++◌, sym, refl, ap, ◌∙◌, subst, add-one, append_assoc, append-nil}
 use Rattle.book.specs.declared.rows.Side.TheVariants.{Buy, Sell}
 use Rattle.reading.specs.Printing.{Line, LineReadsBack}
-use Rattle.reading.specs.Sinks.{Whole}
+use Rattle.reading.specs.Sinks.{Hearing, Whole}
 use Rattle.session.specs.State.{State}
 use Rattle.screens.proofs.Printing.{lines_heard}
 use Rattle.screens.proofs.Ranges.{all_joined}
 use Rattle.screens.specs.Printing.{HeardBack}
 use Rattle.screens.specs.Screens.{CapacityView, BookView, Then, AreasView}
 
-module _ {S : Type 0} (hears : S → List ℕ → S → Type 0) (whole : Whole hears) (m : State) (c : ℕ) where
+module _ {S : Type 0} (hears : Hearing S) (whole : Whole hears) (m : State) (c : ℕ) where
   -- the capacity view and the areas below n are heard
   abbrev pub Below : ℕ → S → S → Type 0
   Below n = HeardBack hears (Then (CapacityView m c) (AreasView m c n))

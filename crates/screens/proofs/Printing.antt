@@ -4,7 +4,7 @@ use Rattle.std.specs.List.{AllByRecursion}
 use Rattle.std.proofs.lemmas.List.{take_more, take_all, map-append}
 use Rattle.capacity.specs.Tests.{answered}
 use Rattle.reading.specs.Printing.{Line, line_text, lines_text, LineReadsBack}
-use Rattle.reading.specs.Sinks.{Whole}
+use Rattle.reading.specs.Sinks.{Hearing, Whole}
 use Rattle.reading.proofs.Heard.{heard_as, lines_text_append}
 use Rattle.session.specs.Calls.{Test}
 use Rattle.session.specs.Faults.{told}
@@ -17,7 +17,7 @@ use Rattle.screens.specs.Screens.{ViewLines}
 pub by_tests : {A : Type 0} (precedes : A → A → Bool) (ts : List Test) (Lines : List A → Type 0) (before after : List A) → ((xs : List A) → Lines xs → length xs ≤ length after) → (e : SessionFault) → Viewed precedes ts Lines before (Err e) after → answered ts ≡ Err (told e)
 by_tests precedes ts Lines before after fits e v = elim v.0 [ inl p ↦ p | inr p ↦ absurd (omega (arith, fits p.2.0 p.2.1, p.2.2, ap length v.1)) ]
 
-module _ {S : Type 0} (hears : S → List ℕ → S → Type 0) (whole : Whole hears) where
+module _ {S : Type 0} (hears : Hearing S) (whole : Whole hears) where
   pub lines_heard : (ls ms : List Line) (s t u : S) → hears s (lines_text ls) t → hears t (lines_text ms) u → hears s (lines_text (ls ++ ms)) u
   lines_heard ls ms s t u h k = heard_as hears whole s u _ _ (sym (lines_text_append ls ms)) (whole.joined s t u (lines_text ls) (lines_text ms) h k)
 

@@ -6,6 +6,7 @@ use Rattle.book.specs.declared.rows.Side.TheVariants.{Buy, Sell}
 use Rattle.capacity.specs.Tests.{answered}
 use Rattle.ranking.specs.Ranking.{Ranking}
 use Rattle.reading.specs.Printing.{Line, lines_text, LineReadsBack}
+use Rattle.reading.specs.Sinks.{Hearing}
 use Rattle.session.specs.Faults.{told}
 use Rattle.session.specs.State.{State}
 use Rattle.session.specs.declared.faults.SessionFault.{SessionFault}
@@ -46,12 +47,12 @@ abbrev pub Screen : State → ℕ → List Line → Type 0
 Screen s c = Then (CapacityView s c) (AreasView s c 16)
 
 -- the lines of this form are heard, and no more
-abbrev pub Heard : {S : Type 0} → (S → List ℕ → S → Type 0) → (List Line → Type 0) → S → S → Type 0
+abbrev pub Heard : {S : Type 0} → Hearing S → (List Line → Type 0) → S → S → Type 0
 Heard hears Form before after = (ls : List Line) × Form ls × hears before (lines_text ls) after
 
 -- How a contract is shown: it is refused exactly by what a view of it is refused by, and then nothing is heard;
 -- else the text of its views' lines is.
-abbrev pub Screened : {S : Type 0} → (S → List ℕ → S → Type 0) → State → ℕ → S → Result (Unit {0}) SessionFault → S → Type 0
+abbrev pub Screened : {S : Type 0} → Hearing S → State → ℕ → S → Result (Unit {0}) SessionFault → S → Type 0
 Screened hears s c before (Ok done) after =
     (answered (contract_tests s c) ≡ Ok tt) × Heard hears (Screen s c) before after
 Screened hears s c before (Err e) after = (answered (contract_tests s c) ≡ Err (told e)) × (after ≡ before)

@@ -37,7 +37,7 @@ const NO_ORDER: BookLine = BookLine {
     quantity: 0,
 };
 
-// Prints the capacity view of a contract that can be viewed.
+// Prints the capacity view of a contract that can be viewed: with lines enough it is not refused.
 fn print_capacities<R: Register, S: TextSink>(session: &Session<R>, contract: u32, out: &mut S)
     requires { answered (contract_tests (state R.Register.meaning session.now) contract) ≡ Ok tt }
     ensures { let view = CapacityView (state R.Register.meaning session.now) contract in
@@ -52,7 +52,7 @@ fn print_capacities<R: Register, S: TextSink>(session: &Session<R>, contract: u3
     }
 }
 
-// Prints the book view of an area and a side of a contract that can be viewed.
+// Prints the book view of an area and a side of a contract that can be viewed: with lines enough it is not refused.
 fn print_book<R: Register, S: TextSink>(
     session: &Session<R>,
     contract: u32,

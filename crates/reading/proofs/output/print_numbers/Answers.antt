@@ -1,5 +1,5 @@
 -- One number after another is heard.
-use Rattle.std.proofs.Common.{◌≡◌, ◌∙◌, ap, get_or}
+use Rattle.std.proofs.Common.{◌≡◌, ◌∙◌, ℕ, List, ap, get_or}
 use Rattle.numbers.specs.Printing.{shown, text_of}
 use Rattle.reading.specs.Printing.{Number}
 use Rattle.reading.proofs.Heard.{heard_as, number_heard}
@@ -14,5 +14,6 @@ loop-number-preserved g c =
     let x = c.number-item.result in
     let at : x ≡ get_or xs i x = c.number-item.is in
     let n : Number = g.N.Printed.number (get_or xs i x) in
-    let e : text_of c.shown.result ≡ shown n.unit n.count = c.shown.ensures ∙ ap (λ y. shown (g.N.Printed.number y).unit (g.N.Printed.number y).count) at in
+    let m : List ℕ = shown (g.N.Printed.number x).unit (g.N.Printed.number x).count in
+    let e : text_of c.shown.result ≡ shown n.unit n.count = ◌∙◌ {b = m} c.shown.ensures (ap (λ y. shown (g.N.Printed.number y).unit (g.N.Printed.number y).count) at) in
     number_heard h w g.N.Printed.number xs i x c.args.out.now c.loop-number.out c.hear.new.self _ c.loop-number-test.true c.loop-number.invariant c.hear.ensures (heard_as h w _ _ _ _ (c.as_bytes.ensures ∙ e) c.hear-in-loop-number.ensures)
