@@ -12,6 +12,4 @@ mod reading;
 mod settling;
 pub mod state;
 pub mod steps;
-#[cfg(test)]
-mod tests;
 mod works;

@@ -6,6 +6,8 @@ ghost use Rattle.trials.specs.Trials.{Trials};
 pub mod over_cells;
 pub mod rounds;
 #[cfg(test)]
+mod sessions;
+#[cfg(test)]
 mod tests;
 
 // The table, as a theorem.
