@@ -11,4 +11,5 @@ pub mod Pairs
 pub mod Tables
 pub mod Shapes
 pub mod Soundness
+pub mod Memory
 pub mod Quotes

@@ -4,6 +4,7 @@ ghost use Rattle.capacity.specs.Tests.{answered, resulting, said};
 ghost use Rattle.capacity.specs.Faults.{told};
 ghost use Rattle.capacity.specs.Meaning.{Capacity, atc, taken, noticed, Sound};
 ghost use Rattle.capacity.specs.Answers.{asked, take_tests, notice_tests};
+ghost use Rattle.capacity.specs.Memory.{Chains};
 
 use crate::direction::Direction;
 use crate::faults::RegisterFault;
@@ -13,6 +14,12 @@ pub trait Register {
     ghost meaning: { Self → Capacity };
 
     ghost sound: { (r : Self) → Sound (meaning r) };
+
+    // What calls leave of the memory that it stands in, from the one value to the other.
+    ghost leaves: { Self → Self → Type 0 };
+
+    // That this holds of no call at all, and of one after another.
+    ghost chains: { Chains leaves };
 
     // What can still flow; none if the contract is above 23 or no connector joins the areas.
     fn atc(&self, direction: Direction) -> Option<i32>
@@ -25,10 +32,12 @@ pub trait Register {
     // Raises the net use in one direction.
     fn take(&mut self, direction: Direction, quantity: u32) -> Result<(), RegisterFault>
         ensures answer { said told result ≡ answered (take_tests (meaning self.old) direction.contract direction.from direction.to quantity) }
-        ensures after { meaning self.new ≡ resulting (take_tests (meaning self.old) direction.contract direction.from direction.to quantity) (meaning self.old) (taken (meaning self.old) direction.contract direction.from direction.to quantity) };
+        ensures after { meaning self.new ≡ resulting (take_tests (meaning self.old) direction.contract direction.from direction.to quantity) (meaning self.old) (taken (meaning self.old) direction.contract direction.from direction.to quantity) }
+        ensures memory { leaves self.old self.new };
 
     // Replaces the four figures of one connector in one contract, and notes the pair.
     fn notice(&mut self, direction: Direction, figures: Figures) -> Result<(), RegisterFault>
         ensures answer { said told result ≡ answered (notice_tests (meaning self.old) direction.contract direction.from direction.to figures) }
-        ensures after { meaning self.new ≡ resulting (notice_tests (meaning self.old) direction.contract direction.from direction.to figures) (meaning self.old) (noticed (meaning self.old) direction.contract direction.from direction.to figures) };
+        ensures after { meaning self.new ≡ resulting (notice_tests (meaning self.old) direction.contract direction.from direction.to figures) (meaning self.old) (noticed (meaning self.old) direction.contract direction.from direction.to figures) }
+        ensures memory { leaves self.old self.new };
 }

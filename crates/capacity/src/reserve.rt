@@ -3,6 +3,7 @@ ghost use Rattle.std.specs.Prelude.{◌≡◌, ◌+◌, min};
 ghost use Rattle.capacity.specs.Meaning.{reserved};
 ghost use Rattle.capacity.specs.Shapes.{network_of, kept_of, layered};
 ghost use Rattle.capacity.specs.Soundness.{layered_sound};
+ghost use Rattle.capacity.specs.Memory.{below_leaves, below_chains};
 
 use crate::checks::check_take;
 use crate::direction::Direction;
@@ -61,6 +62,10 @@ impl<R: Register> Register for Reserve<R> {
     ghost meaning = { layered R.Register.meaning };
 
     ghost sound = { layered_sound R.Register.meaning R.Register.sound };
+
+    ghost leaves = { below_leaves R.Register.leaves };
+
+    ghost chains = { below_chains R.Register.leaves R.Register.chains };
 
     fn atc(&self, direction: Direction) -> Option<i32> {
         let atc = self.below.atc(direction)?;

@@ -1,5 +1,6 @@
 -- The one cell that a call sets among those that were lent.
-use Rattle.std.proofs.Common.{◌≡◌, ℕ, ◌+◌, ◌<◌, length, set, Some, None, Option, sym, refl, ap, ◌∙◌, arith, length-take}
+use Rattle.std.proofs.Common.{◌≡◌, ℕ, ◌+◌, ◌<◌, length, set, Some, None, Option, sym, refl, ap, ◌∙◌, arith, drop, length-set, length-take}
+use Rattle.std.proofs.lemmas.List.{drop-set-lt}
 use Rattle.std.proofs.lemmas.List.Quantifiers.{position-Some}
 use Rattle.std.specs.List.{position}
 use Rattle.std.specs.Option.{unwrap_or}
@@ -8,7 +9,7 @@ use Rattle.capacity.specs.declared.side.Side.{Side}
 use Rattle.cells.specs.declared.cell.Cell.{Cell}
 use Rattle.cells.specs.declared.register.CellRegister.{CellRegister}
 use Rattle.cells.specs.Cells.{names}
-use Rattle.cells.specs.Lent.{lent, place_of, OneSet}
+use Rattle.cells.specs.Lent.{lent, lent_name, place_of, OneSet, SpareStay}
 use Rattle.cells.specs.Shapes.{in_use}
 
 module _ (r q : CellRegister) (d : Direction) where
@@ -56,3 +57,13 @@ module _ (r q : CellRegister) (d : Direction) where
           let below = in_use_below o.cell i (sym e) in
           let n = o.count in
           omega arith
+
+  -- the spare cells stay
+  pub set_spare : (s t : Side) → OneSet r q d s t → lent_name q ≡ lent_name r → SpareStay r q
+  set_spare s t o e =
+      let n = o.count in record {
+        slice = e;
+        many = ap length o.set ∙ length-set (lent r) (place_of r d) o.cell;
+        used = omega arith;
+        spare = ap (drop q.count) o.set ∙ drop-set-lt q.count (lent r) (place_of r d) o.cell (omega arith);
+      }

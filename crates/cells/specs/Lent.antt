@@ -1,5 +1,8 @@
 -- What becomes of the cells that were lent: those in use come first, and the spare ones after them.
-use Rattle.std.specs.Prelude.{◌≡◌, ℕ, ◌+◌, ◌<◌, max, List, length, position, slice_set}
+use Rattle.std.specs.Prelude.{◌≡◌, ℕ, ◌+◌, ◌-◌, ◌<◌, ◌≤◌, max, List, length, drop, position, slice_set, refl}
+use Rattle.std.proofs.Common.{sym, ap, subst, ◌∙◌, arith}
+use Rattle.std.proofs.lemmas.List.{drop-drop}
+use Rattle.capacity.specs.Memory.{Chains}
 use Rattle.std.specs.Borrow.{GName}
 use Rattle.std.specs.Option.{unwrap_or}
 use Rattle.capacity.specs.declared.direction.Direction.{Direction}
@@ -47,3 +50,26 @@ SetByTake r q d n = OneSet r q d (taken_there (side_of r d) (side_back r d) n) (
 
 abbrev pub SetByNotice : CellRegister → CellRegister → Direction → Figures → Type 0
 SetByNotice r q d f = OneSet r q d (figured (side_of r d) f.ntc f.aac) (figured (side_back r d) f.ntc_back f.aac_back)
+
+-- the same slice, and of its cells those that are spare are as they were
+pub record SpareStay (r q : CellRegister) : Type 0 where
+  pub slice : lent_name q ≡ lent_name r
+  pub many : length (lent q) ≡ length (lent r)
+  pub used : r.count ≤ q.count
+  pub spare : drop q.count (lent q) ≡ drop q.count (lent r)
+
+pub spare_chains : Chains SpareStay
+spare_chains = record {
+  none = λ r. record { slice = refl; many = refl; used = omega arith; spare = refl };
+  next = λ r s t h k. record {
+    slice = k.slice ∙ h.slice;
+    many = k.many ∙ h.many;
+    used = omega (arith, h.used, k.used);
+    spare = k.spare ∙ further s.count t.count k.used (lent s) (lent r) h.spare;
+  };
+}
+  where
+    further : (m n : ℕ) → m ≤ n → (xs ys : List Cell) → drop m xs ≡ drop m ys → drop n xs ≡ drop n ys
+    further m n l xs ys e =
+        let s : m + (n - m) ≡ n = omega arith in
+        subst (λ i. drop i xs ≡ drop i ys) s (sym (drop-drop (n - m) m xs) ∙ ap (drop (n - m)) e ∙ drop-drop (n - m) m ys)

@@ -26,6 +26,7 @@ pub fn least_along<R: Register>(register: &R, contract: u32, route: &Route, most
 pub fn carry<R: Register>(register: &mut R, contract: u32, route: &Route, quantity: u32)
     ensures after { R.Register.meaning register.new ≡ asked_along (R.Register.meaning register.old) contract quantity (listed route.now) }
     ensures traded { (x y n : ℕ) → Carries (R.Register.meaning register.old) contract x y n quantity (listed route.now) → Traded (R.Register.meaning register.old) (R.Register.meaning register.new) contract x y quantity (listed route.now) }
+    ensures memory { R.Register.leaves register.old register.new }
 {
     for &[from, to] in route.areas().array_windows::<2>() {
         let _ = register.take(Direction { contract, from, to }, quantity);

@@ -5,6 +5,7 @@ ghost use Rattle.capacity.specs.Pairs.{Shows, paired};
 ghost use Rattle.capacity.specs.Tables.{fresh, place};
 ghost use Rattle.capacity.specs.Shapes.{joins_of, network_of, table_of};
 ghost use Rattle.capacity.specs.Soundness.{table_sound};
+ghost use Rattle.capacity.specs.Memory.{anything, anything_chains};
 
 use crate::checks::{check_notice, check_take};
 use crate::direction::Direction;
@@ -64,6 +65,10 @@ impl Register for FullTable {
     ghost meaning = { table_of };
 
     ghost sound = { table_sound };
+
+    ghost leaves = { anything };
+
+    ghost chains = { anything_chains };
 
     fn atc(&self, direction: Direction) -> Option<i32> {
         if !self.links.serves(direction) {

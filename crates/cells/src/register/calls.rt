@@ -8,7 +8,7 @@ ghost use Rattle.capacity.specs.Answers.{take_tests, notice_tests};
 ghost use Rattle.capacity.specs.Shapes.{network_of};
 ghost use Rattle.cells.specs.Meaning.{unnoted};
 ghost use Rattle.cells.specs.Shapes.{in_use, cells_of};
-ghost use Rattle.cells.specs.Lent.{lent, lent_name, SetByTake, SetByNotice};
+ghost use Rattle.cells.specs.Lent.{lent, lent_name, SetByTake, SetByNotice, SpareStay, spare_chains};
 ghost use Rattle.cells.specs.Soundness.{cells_sound};
 
 use crate::cell::Cell;
@@ -58,6 +58,10 @@ impl<'a> Register for CellRegister<'a> {
 
     ghost sound = { cells_sound };
 
+    ghost leaves = { SpareStay };
+
+    ghost chains = { spare_chains };
+
     fn atc(&self, direction: Direction) -> Option<i32> {
         if !self.map.serves(direction) {
             return None;
@@ -75,6 +79,7 @@ impl<'a> Register for CellRegister<'a> {
     fn take(&mut self, direction: Direction, quantity: u32) -> Result<(), RegisterFault>
         ensures answer { said told result ≡ answered (take_tests (cells_of self.old) direction.contract direction.from direction.to quantity) }
         ensures after { cells_of self.new ≡ resulting (take_tests (cells_of self.old) direction.contract direction.from direction.to quantity) (cells_of self.old) (taken (cells_of self.old) direction.contract direction.from direction.to quantity) }
+        ensures memory { SpareStay self.old self.new }
         ensures refused { OnErr result (self.new ≡ self.old) }
         ensures set { OnOk result (SetByTake self.old self.new direction quantity) }
         ensures count { self.new.count ≡ self.old.count }
@@ -91,6 +96,7 @@ impl<'a> Register for CellRegister<'a> {
     fn notice(&mut self, direction: Direction, figures: Figures) -> Result<(), RegisterFault>
         ensures answer { said told result ≡ answered (notice_tests (cells_of self.old) direction.contract direction.from direction.to figures) }
         ensures after { cells_of self.new ≡ resulting (notice_tests (cells_of self.old) direction.contract direction.from direction.to figures) (cells_of self.old) (noticed (cells_of self.old) direction.contract direction.from direction.to figures) }
+        ensures memory { SpareStay self.old self.new }
         ensures refused { OnErr result (self.new ≡ self.old) }
         ensures set { OnOk result (SetByNotice self.old self.new direction figures) }
         ensures same_cells { lent_name self.new ≡ lent_name self.old }

@@ -9,3 +9,4 @@ abbrev pub invariant-loop-from : goal.invariant-loop-from
 invariant-loop-from g l =
     TwoByTwo l.from-iterator
     × (asked_along (g.R.Register.meaning l.register) l.contract l.quantity (ahead l.from-iterator) ≡ asked_along (g.R.Register.meaning l.initial.register) l.contract l.quantity (listed l.route))
+    × g.R.Register.leaves l.initial.register l.register

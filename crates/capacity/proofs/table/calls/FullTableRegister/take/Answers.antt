@@ -13,7 +13,7 @@ returns-in_err-check_take c =
     let m = table_of c.args.self.now in
     let p = err_from_is_err_and c.from_residual.result c.from_residual.ensures.1 in
     let r = refused (take_tests m d.contract d.from d.to c.args.quantity) m _ _ _ (p.1 ∙ ap Err p.2) (c.in_err-check_take.ensures.answer m c.atc-flow.ensures) in
-    record { answer = r.0; after = r.1 }
+    record { answer = r.0; after = r.1; memory = tt }
 
 pub pair-pair-requires : goal.pair-pair-requires
 pair-pair-requires c =

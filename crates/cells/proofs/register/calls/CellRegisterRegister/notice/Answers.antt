@@ -14,7 +14,8 @@ use Rattle.cells.specs.Cells.{noted_in}
 use Rattle.cells.specs.Shapes.{in_use, cells_of}
 use Rattle.cells.specs.Soundness.{cells_sound}
 use Rattle.cells.proofs.Held.{room_left}
-use Rattle.cells.proofs.Lent.{set_sides}
+use Rattle.cells.proofs.Lent.{set_sides, set_spare}
+use Rattle.cells.specs.Lent.{spare_chains}
 use Rattle.cells.proofs.register.calls.CellRegisterRegister.notice.Goals as goal
 
 -- what the register says of a pair that exists
@@ -28,7 +29,7 @@ returns-in_err-check_notice c =
     let m = cells_of t in
     let p = err_from_is_err_and c.from_residual.result c.from_residual.ensures.1 in
     let r = refused (notice_tests m d.contract d.from d.to c.args.figures) m _ _ _ (p.1 ∙ ap Err p.2) (c.in_err-check_notice.ensures m c.joins-joined.ensures (room t d c.full-full.ensures c.joins-joined.ensures)) in
-    record { answer = r.0; after = r.1; refused = rw p.1 refl; set = IfOk-from_err c.from_residual.result _ c.from_residual.ensures.0; same_cells = refl }
+    record { answer = r.0; after = r.1; memory = spare_chains.none c.args.self.now; refused = rw p.1 refl; set = IfOk-from_err c.from_residual.result _ c.from_residual.ensures.0; same_cells = refl }
 
 pub pair-pair-requires : goal.pair-pair-requires
 pair-pair-requires c =
@@ -59,6 +60,7 @@ returns c =
     record {
       answer = e;
       after = notice_leaves m _ d.contract d.from d.to f _ _ _ _ (cells_sound t) e pair.shows c.noticed.ensures.there c.noticed.ensures.back c.put.ensures.meaning;
+      memory = set_spare t _ d _ _ c.put.ensures.set c.put.ensures.same_cells;
       refused = tt;
       set = set_sides t _ d _ _ _ _ c.put.ensures.set
           (sides.0 ∙ ap (λ (s : Side). figured s f.ntc f.aac) pair.there)

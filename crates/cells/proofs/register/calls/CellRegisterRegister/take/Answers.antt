@@ -11,11 +11,11 @@ use Rattle.capacity.specs.Tests.{answered}
 use Rattle.capacity.proofs.Calls.{refused, take_served, take_noted, take_sides, take_leaves}
 use Rattle.cells.specs.declared.register.CellRegister.{CellRegister}
 use Rattle.cells.specs.Cells.{names}
-use Rattle.cells.specs.Lent.{side_of}
+use Rattle.cells.specs.Lent.{side_of, spare_chains}
 use Rattle.cells.specs.Shapes.{in_use, cells_of}
 use Rattle.cells.specs.Soundness.{cells_sound}
 use Rattle.cells.proofs.Held.{noted_none}
-use Rattle.cells.proofs.Lent.{set_sides, set_in_use}
+use Rattle.cells.proofs.Lent.{set_sides, set_spare, set_in_use}
 use Rattle.cells.proofs.register.calls.CellRegisterRegister.take.Goals as goal
 
 -- the pair of a take that no test refuses has a cell
@@ -30,7 +30,7 @@ returns-in_err-check_take c =
     let m = cells_of c.args.self.now in
     let p = err_from_is_err_and c.from_residual.result c.from_residual.ensures.1 in
     let r = refused (take_tests m d.contract d.from d.to c.args.quantity) m _ _ _ (p.1 ∙ ap Err p.2) (c.in_err-check_take.ensures.answer m c.atc-flow.ensures) in
-    record { answer = r.0; after = r.1; refused = rw p.1 refl; set = IfOk-from_err c.from_residual.result _ c.from_residual.ensures.0; count = refl; same_cells = refl }
+    record { answer = r.0; after = r.1; memory = spare_chains.none c.args.self.now; refused = rw p.1 refl; set = IfOk-from_err c.from_residual.result _ c.from_residual.ensures.0; count = refl; same_cells = refl }
 
 pub pair-pair-requires : goal.pair-pair-requires
 pair-pair-requires c =
@@ -60,6 +60,7 @@ returns c =
     record {
       answer = e;
       after = take_leaves m _ d.contract d.from d.to n _ _ _ _ (cells_sound t) e pair.shows c.taken.ensures.there c.taken.ensures.back c.put.ensures.meaning;
+      memory = set_spare t _ d _ _ c.put.ensures.set c.put.ensures.same_cells;
       refused = tt;
       set = set_sides t _ d _ _ _ _ c.put.ensures.set
           (sides.0 ∙ ap (λ (s : Side). taken_there s c.pair-pair.result.back n) pair.there ∙ ap (λ (s : Side). taken_there (side_of t d) s n) pair.back)

@@ -1,0 +1,21 @@
+-- What calls may leave of the memory that a register stands in.
+use Rattle.capacity.specs.declared.reserve.Reserve.{Reserve}
+
+-- a relation that holds of no call at all, and of one call after another
+pub record Chains {R : Type 0} (leaves : R → R → Type 0) : Type 0 where
+  pub none : (r : R) → leaves r r
+  pub next : (r s t : R) → leaves r s → leaves s t → leaves r t
+
+-- of a register that owns its memory nothing is to be told
+abbrev pub anything : {R : Type 0} → R → R → Type 0
+anything r s = Unit {0}
+
+pub anything_chains : {R : Type 0} → Chains {R} anything
+anything_chains = record { none = λ r. tt; next = λ r s t h k. tt }
+
+-- a layer leaves what the register below it leaves
+abbrev pub below_leaves : {R : Type 0} → (R → R → Type 0) → Reserve R → Reserve R → Type 0
+below_leaves leaves r s = leaves r.below s.below
+
+pub below_chains : {R : Type 0} (leaves : R → R → Type 0) → Chains leaves → Chains (below_leaves leaves)
+below_chains leaves h = record { none = λ r. h.none r.below; next = λ r s t. h.next r.below s.below t.below }
