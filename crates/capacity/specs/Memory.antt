@@ -10,7 +10,7 @@ pub record Chains {R : Type 0} (leaves : R → R → Type 0) : Type 0 where
 abbrev pub anything : {R : Type 0} → R → R → Type 0
 anything r s = Unit {0}
 
-pub anything_chains : {R : Type 0} → Chains {R} anything
+pub anything_chains : {R : Type 0} → Chains {R = R} anything
 anything_chains = record { none = λ r. tt; next = λ r s t h k. tt }
 
 -- a layer leaves what the register below it leaves
