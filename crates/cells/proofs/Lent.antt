@@ -1,15 +1,18 @@
 -- The one cell that a call sets among those that were lent.
-use Rattle.std.proofs.Common.{◌≡◌, ℕ, ◌+◌, ◌<◌, length, set, Some, None, Option, sym, refl, ap, ◌∙◌, arith, drop, length-set, length-take}
+use Rattle.std.proofs.Common.{◌≡◌, ℕ, ◌+◌, ◌<◌, List, [], ◌∷◌, length, take, set, Some, None, Option, sym, refl, ap, ◌∙◌, subst, arith, drop, length-set, length-take}
 use Rattle.std.proofs.lemmas.List.{drop-set-lt}
 use Rattle.std.proofs.lemmas.List.Quantifiers.{position-Some}
 use Rattle.std.specs.List.{position}
 use Rattle.std.specs.Option.{unwrap_or}
 use Rattle.capacity.specs.declared.direction.Direction.{Direction}
 use Rattle.capacity.specs.declared.side.Side.{Side}
+use Rattle.capacity.specs.Directions.{put}
+use Rattle.capacity.specs.Sides.{no_side}
+use Rattle.capacity.proofs.Puts.{put_there}
 use Rattle.cells.specs.declared.cell.Cell.{Cell}
 use Rattle.cells.specs.declared.register.CellRegister.{CellRegister}
-use Rattle.cells.specs.Cells.{names}
-use Rattle.cells.specs.Lent.{lent, lent_name, place_of, OneSet, SpareStay}
+use Rattle.cells.specs.Cells.{names, side_in}
+use Rattle.cells.specs.Lent.{lent, lent_name, place_of, side_of, OneSet, SpareStay}
 use Rattle.cells.specs.Shapes.{in_use}
 
 module _ (r q : CellRegister) (d : Direction) where
@@ -67,3 +70,27 @@ module _ (r q : CellRegister) (d : Direction) where
         used = omega arith;
         spare = ap (drop q.count) o.set ∙ drop-set-lt q.count (lent r) (place_of r d) o.cell (omega arith);
       }
+
+-- ---- the first cell that a register sets
+
+taken_first : (xs : List Cell) (v : Cell) → 0 < length xs → take 1 (set xs 0 v) ≡ v ∷ []
+taken_first [] v l = absurd (omega arith)
+taken_first (x ∷ xs) v l = refl
+
+pub first_place : (r : CellRegister) (d : Direction) → r.count ≡ 0 → place_of r d ≡ 0
+first_place r d e = ap (λ (n : ℕ). unwrap_or (position (λ x. names x d.contract d.from d.to) (take n (lent r))) n) e
+
+pub first_side : (r : CellRegister) (d : Direction) → r.count ≡ 0 → side_of r d ≡ no_side
+first_side r d e = ap (λ (n : ℕ). side_in (take n (lent r)) d.contract d.from d.to) e
+
+-- what it says then of the direction asked
+pub first_set : (r q : CellRegister) (d : Direction) (s t : Side) → r.count ≡ 0 → OneSet r q d s t → side_in (take 1 (lent q)) d.contract d.from d.to ≡ s
+first_set r q d s t e o =
+    ap (λ (xs : List Cell). side_in (take 1 xs) d.contract d.from d.to) (o.set ∙ ap (λ (n : ℕ). set (lent r) n o.cell) at)
+    ∙ ap (λ (xs : List Cell). side_in xs d.contract d.from d.to) (taken_first (lent r) o.cell (subst (λ n. n < length (lent r)) at o.place))
+    ∙ ap (λ (w : Direction). put (side_in []) w.contract w.from w.to o.cell.pair.there o.cell.pair.back d.contract d.from d.to) o.pair
+    ∙ put_there (side_in []) d.contract d.from d.to o.cell.pair.there o.cell.pair.back
+    ∙ o.there
+  where
+    at : place_of r d ≡ 0
+    at = first_place r d e

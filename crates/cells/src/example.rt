@@ -1,14 +1,18 @@
 // A worked example: a reserve layer over cells that the caller lends, as any register.
-ghost use Rattle.std.specs.Prelude.{◌≡◌, length, drop, pos, Some};
+ghost use Rattle.std.specs.Prelude.{◌≡◌, length, take, drop, pos, Some, OnOk, OnErr};
+ghost use Rattle.capacity.specs.Tests.{answered, said};
+ghost use Rattle.capacity.specs.Faults.{told};
 ghost use Rattle.capacity.specs.Meaning.{reserved};
 ghost use Rattle.capacity.specs.Shapes.{network_of};
 ghost use Rattle.cells.specs.Meaning.{unnoted};
-ghost use Rattle.cells.specs.Quotes.{quote_of};
+ghost use Rattle.cells.specs.Cells.{side_in};
+ghost use Rattle.cells.specs.Quotes.{quote_of, first_notice};
 
 use crate::cell::Cell;
 use crate::register::CellRegister;
 use capacity::direction::Direction;
 use capacity::example::{FIGURES, Flow, WAY, quote};
+use capacity::faults::RegisterFault;
 use capacity::map::ConnectorMap;
 use capacity::register::Register;
 use capacity::reserve::Reserve;
@@ -56,10 +60,13 @@ pub fn one_cell() -> Quote
     ask_in(&map, &mut cells)
 }
 
-// One pair noted in cells that were lent with anything in them: all beyond the first are as they were.
-pub fn note_one(map: &ConnectorMap, cells: &mut [Cell])
-    ensures { drop 1 cells.new ≡ drop 1 cells.old }
+// One pair noted in cells that were lent with anything in them: the first says what was noticed, all others stay.
+pub fn note_one(map: &ConnectorMap, cells: &mut [Cell]) -> Result<(), RegisterFault>
+    ensures answer { said told result ≡ answered (first_notice (network_of map.now).joins (length cells.old)) }
+    ensures first { OnOk result (side_in (take 1 cells.new) 3 0 1 ≡ record { ntc = 200; aac = 50; used = 0 }) }
+    ensures others { drop 1 cells.new ≡ drop 1 cells.old }
+    ensures refused { OnErr result (cells.new ≡ cells.old) }
 {
     let mut register = CellRegister::new(map, cells);
-    let _ = register.notice(WAY, FIGURES);
+    register.notice(WAY, FIGURES)
 }
