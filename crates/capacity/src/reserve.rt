@@ -25,6 +25,7 @@ impl<R: Register> Reserve<R> {
     pub fn new(below: R, map: &ConnectorMap) -> Reserve<R>
         ensures keeps { layered R.Register.meaning result ≡ reserved (R.Register.meaning below) (network_of map.now).kept }
         ensures stands { result.below ≡ below }
+        ensures kept { kept_of result.wishes ≡ (network_of map.now).kept }
     {
         Reserve {
             below,

@@ -58,6 +58,12 @@ pub record SpareStay (r q : CellRegister) : Type 0 where
   pub used : r.count ≤ q.count
   pub spare : drop q.count (lent q) ≡ drop q.count (lent r)
 
+-- the register stands in the slice of this name, which was lent as xs, and its spare cells are as they were lent
+pub record StandsIn (name : GName) (xs : List Cell) (r : CellRegister) : Type 0 where
+  pub slice : lent_name r ≡ name
+  pub many : length (lent r) ≡ length xs
+  pub spare : drop r.count (lent r) ≡ drop r.count xs
+
 pub spare_chains : Chains SpareStay
 spare_chains = record {
   none = λ r. record { slice = refl; many = refl; used = omega arith; spare = refl };

@@ -1,6 +1,6 @@
 // A call made on a session, and the pass that it leaves.
 ghost use Rattle.std.specs.Prelude.{◌≡◌, Ok, Err, MatchResult};
-ghost use Rattle.session.specs.State.{state};
+ghost use Rattle.session.specs.State.{state, register_of};
 ghost use Rattle.events.specs.declared.events.Event.TheVariants.{Called};
 ghost use Rattle.events.specs.Events.{Answered, HappensOn, begins_round, round_follows};
 ghost use Rattle.events.specs.Performing.{LeftBy};
@@ -25,6 +25,7 @@ fn accept<R: Register>(
     call: &Call,
 ) -> Result<(Option<usize>, Left), Refused<QuietPass>>
     ensures answer { MatchResult result (λ x. Answered (state R.Register.meaning session.old) pass.number call.now (Ok x.0) (state R.Register.meaning session.new)) (λ e. Answered (state R.Register.meaning session.old) pass.number call.now (Err e.fault) (state R.Register.meaning session.new)) }
+    ensures memory { R.leaves (register_of session.old) (register_of session.new) }
     ensures left { MatchResult result (λ x. LeftBy (begins_round call.now) pass.number x.1) (λ e. e.pass.number ≡ pass.number) }
 {
     // A match and no closures: calls are values, which events hold and laws speak of.
@@ -52,6 +53,7 @@ fn accept<R: Register>(
 pub fn make<R: Register>(session: &mut Session<R>, pass: QuietPass, call: &Call) -> (Answer, Left)
     ensures happens { HappensOn R.meaning session.old (Called pass.number call.now result.0) session.new }
     ensures left { LeftBy (round_follows call.now result.0) pass.number result.1 }
+    ensures memory { R.leaves (register_of session.old) (register_of session.new) }
 {
     match accept(session, pass, call) {
         Ok((gone, left)) => (Ok(gone), left),

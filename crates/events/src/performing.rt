@@ -1,6 +1,6 @@
 // A call made on a session, and its round, if it begins one, run to its end.
 ghost use Rattle.std.specs.Prelude.{◌≡◌};
-ghost use Rattle.session.specs.State.{state};
+ghost use Rattle.session.specs.State.{state, register_of};
 ghost use Rattle.events.specs.declared.events.Event.{Event as AnEvent};
 ghost use Rattle.events.specs.Performing.{Performed};
 
@@ -33,6 +33,7 @@ pub fn perform<R: Register, L: CallLog + TradeLog>(
 ) -> (Answer, QuietPass)
     ensures performed { Performed L.CallLog.calls L.TradeLog.notes (state R.Register.meaning session.old) pass.number call.now log.old result.0 log.new (state R.Register.meaning session.new) }
     ensures pass { result.1.number ≡ pass.number }
+    ensures memory { R.leaves (register_of session.old) (register_of session.new) }
 {
     let number = pass.number();
     let (answer, left) = make(session, pass, call);

@@ -3,6 +3,7 @@ ghost use Rattle.std.specs.Prelude.{◌≡◌, length};
 ghost use Rattle.events.specs.declared.events.Event.TheVariants.{Stepped};
 ghost use Rattle.events.specs.Events.{HappensOn, PlacesAfter, goes_on};
 ghost use Rattle.events.specs.Performing.{LeftBy};
+ghost use Rattle.session.specs.State.{register_of};
 
 use crate::events::{StepAnswer, Traded};
 use crate::making::Left;
@@ -21,6 +22,7 @@ pub fn step<R: Register>(
     ensures happens { HappensOn R.meaning session.old (Stepped pass.number (length places.old) result.0) session.new }
     ensures left { LeftBy (goes_on result.0) pass.number result.1 }
     ensures places { PlacesAfter places.old result.0 places.new }
+    ensures memory { R.leaves (register_of session.old) (register_of session.new) }
 {
     match session.step(pass, places) {
         Ok(Step::Traded { trade, pass }) => {

@@ -5,7 +5,7 @@ ghost use Rattle.events.specs.Events.{HappensOn, PlacesAfter, goes_on, round_fol
 ghost use Rattle.events.specs.Performing.{LeftBy};
 ghost use Rattle.history.specs.Laws.{OneForCall, OneForStep};
 ghost use Rattle.history.specs.Leading.{LeadsOn};
-ghost use Rattle.session.specs.State.{state};
+ghost use Rattle.session.specs.State.{state, register_of};
 
 use capacity::register::Register;
 use events::calls::Call;
@@ -21,6 +21,7 @@ pub fn make<R: Register>(session: &mut Session<R>, pass: QuietPass, call: &Call)
     ensures lawful { LeadsOn R.meaning session.old (Called pass.number call.now result.0) session.new }
     ensures once { OneForCall (state R.meaning session.old) pass.number }
     ensures left { LeftBy (round_follows call.now result.0) pass.number result.1 }
+    ensures memory { R.leaves (register_of session.old) (register_of session.new) }
 {
     making::make(session, pass, call)
 }
@@ -36,6 +37,7 @@ pub fn step<R: Register>(
     ensures once { OneForStep (state R.meaning session.old) pass.number }
     ensures left { LeftBy (goes_on result.0) pass.number result.1 }
     ensures places { PlacesAfter places.old result.0 places.new }
+    ensures memory { R.leaves (register_of session.old) (register_of session.new) }
 {
     stepping::step(session, pass, places)
 }

@@ -1,12 +1,12 @@
 -- The end of a session that was played.
-use Rattle.std.proofs.Common.{◌≡◌, ℕ, ◌≤◌, true, eqb, eq-eqb, List, [], length, take, None, Ok, Err, Result, IsOk, reverse, sym, refl, ◌∙◌, subst}
+use Rattle.std.proofs.Common.{◌≡◌, ℕ, ◌≤◌, true, eqb, eq-eqb, List, [], length, take, None, Ok, Err, Result, IsOk, MatchResult, reverse, sym, refl, ◌∙◌, subst}
 use Rattle.std.proofs.lemmas.List.{reverse-reverse, take_all}
 use Rattle.capacity.specs.Meaning.{Capacity, Sound}
 use Rattle.session.specs.declared.passes.QuietPass.{QuietPass}
 use Rattle.session.specs.declared.passes.Refused.{Refused}
 use Rattle.session.specs.declared.state.Session.{Session}
 use Rattle.session.specs.Calls.{ended, ending}
-use Rattle.session.specs.State.{State, fresh}
+use Rattle.session.specs.State.{State, fresh, register_of}
 use Rattle.events.specs.declared.calls.Call.{Call}
 use Rattle.events.specs.declared.events.Event.{Event}
 use Rattle.player.specs.Playing.{Played, GivesBack}
@@ -28,6 +28,11 @@ module _ {R : Type 0} (meaning : R → Capacity) where
   returned : (r : Result R (Session R × Refused QuietPass)) (c : Capacity) → ended meaning r ≡ Ok c → Returns r c
   returned (Ok y) c e = (refl, λ x h. cc)
   returned (Err f) c e = absurd (cc)
+
+-- the register that comes back is the session's own
+pub comes_out : {R : Type 0} (r : Result R (Session R × Refused QuietPass)) (o : R) → MatchResult r (λ x. x ≡ o) (λ e. register_of e.0 ≡ o) → (x : R) → r ≡ Ok x → x ≡ o
+comes_out (Ok y) o h x e = let same : y ≡ x = cc in sym same ∙ h
+comes_out (Err f) o h x e = absurd (cc)
 
 -- all calls have been played
 module _ {S : Type 0} (H : S → Event → S → Type 0) (m : Capacity) (n : ℕ) (s t : State) (ks : List Call) (i : ℕ) (o b : S)

@@ -33,6 +33,7 @@ pub fn play_into<R: Register, S: EventSink>(
     ensures history { (es : List AnEvent)
         × GivesBack (R.meaning register) number calls.now es (R.meaning result.register)
         × Heard S.hears sink es result.sink }
+    ensures memory { R.leaves register result.register }
     ensures only { OnePlaying (R.meaning register) number calls.now }
     ensures laws { LawsHold }
     ensures standing { StandingTold }
@@ -61,6 +62,7 @@ pub fn play<R: Register>(heap: Global, number: u32, register: R, calls: &[Call])
     ensures played { IfOk result.events (λ events. calls_of events.items ≡ calls.now) }
     ensures register { (es : List AnEvent)
         × GivesBack (R.meaning register) number calls.now es (R.meaning result.register) }
+    ensures memory { R.leaves register result.register }
     ensures only { OnePlaying (R.meaning register) number calls.now }
     ensures laws { LawsHold }
     ensures standing { StandingTold }

@@ -1,6 +1,6 @@
 // A turn of a session, with its events told to a sink.
 ghost use Rattle.std.specs.Prelude.{◌≡◌};
-ghost use Rattle.session.specs.State.{state};
+ghost use Rattle.session.specs.State.{state, register_of};
 ghost use Rattle.player.specs.Sinks.{trade_event, TurnHeard};
 
 use crate::sinks::EventSink;
@@ -54,6 +54,7 @@ pub(crate) fn take_turn<R: Register, S: EventSink>(
         telling.old.sink telling.new.sink (state R.meaning session.new) }
     ensures told { telling.new.pass ≡ telling.old.pass }
     ensures pass { result.number ≡ pass.number }
+    ensures memory { R.leaves (register_of session.old) (register_of session.new) }
 {
     let (answer, quiet) = perform(session, pass, call, telling);
     let follows = call.begins_round() && answer.is_ok();

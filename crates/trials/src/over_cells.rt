@@ -1,7 +1,9 @@
 // Calls played over a register in cells that the caller lends, and over a layer on it that keeps more back.
 ghost use Rattle.std.specs.Prelude.{◌≡◌, IfOk, List, length};
+ghost use Rattle.capacity.specs.Meaning.{reserved};
 ghost use Rattle.capacity.specs.Shapes.{network_of};
 ghost use Rattle.cells.specs.Shapes.{cells_of};
+ghost use Rattle.cells.specs.Lent.{StandsIn};
 ghost use Rattle.events.specs.declared.events.Event.{Event as AnEvent};
 ghost use Rattle.player.specs.Playing.{Plays, GivesBack, OnePlaying, calls_of};
 ghost use Rattle.trials.specs.Lent.{lent, lent_kept};
@@ -30,38 +32,33 @@ pub fn play_over_cells<'a>(
     ensures register { (es : List AnEvent)
         × GivesBack (lent (network_of map.now) (length cells.old)) number calls.now es
         (cells_of result.register) }
+    ensures cells { StandsIn cells.entry.ghost_name cells.old result.register }
     ensures only { OnePlaying (lent (network_of map.now) (length cells.old)) number calls.now }
 {
     play(heap, number, CellRegister::new(map, cells), calls)
 }
 
-// The register is let go: no proof covers a `Playback` of a layer over lent cells yet.
-fn events_over<R: Register + Drop>(
-    heap: Global,
-    number: u32,
-    register: R,
-    calls: &[Call],
-) -> Result<Vec<Event>, AllocError>
-    ensures history { IfOk result (λ events. Plays (R.meaning register) number calls.now events.items) }
-    ensures played { IfOk result (λ events. calls_of events.items ≡ calls.now) }
-    ensures only { OnePlaying (R.meaning register) number calls.now }
-{
-    play(heap, number, register, calls).events
-}
-
-// The same with what the map keeps back.
+// The same with what the map keeps back; the layer is ended, and the register below it goes back.
 pub fn play_over_kept_cells<'a>(
     heap: Global,
     number: u32,
     map: &'a ConnectorMap,
     cells: &'a mut [Cell],
     calls: &[Call],
-) -> Result<Vec<Event>, AllocError>
-    ensures history { IfOk result (λ events.
+) -> Playback<CellRegister<'a>>
+    ensures history { IfOk result.events (λ events.
         Plays (lent_kept (network_of map.now) (length cells.old)) number calls.now events.items) }
-    ensures played { IfOk result (λ events. calls_of events.items ≡ calls.now) }
+    ensures played { IfOk result.events (λ events. calls_of events.items ≡ calls.now) }
+    ensures register { (es : List AnEvent)
+        × GivesBack (lent_kept (network_of map.now) (length cells.old)) number calls.now es
+        (reserved (cells_of result.register) (network_of map.now).kept) }
+    ensures cells { StandsIn cells.entry.ghost_name cells.old result.register }
     ensures only { OnePlaying (lent_kept (network_of map.now) (length cells.old)) number calls.now }
 {
     let below = CellRegister::new(map, cells);
-    events_over(heap, number, Reserve::new(below, map), calls)
+    let Playback { register, events } = play(heap, number, Reserve::new(below, map), calls);
+    Playback {
+        register: register.into_below(),
+        events,
+    }
 }

@@ -79,7 +79,7 @@ fn grant_that_is_kept_back(rt: HostRuntime) -> Result<(), Fail> {
     let mut map = ConnectorMap::new();
     let _ = map.connect(0, 1, 1, 0);
     let mut cells = [Cell::new()];
-    let events = play_over_kept_cells(rt.alloc(), 7, &map, &mut cells, &grant_calls())?;
+    let events = play_over_kept_cells(rt.alloc(), 7, &map, &mut cells, &grant_calls()).events?;
     assert_eq!(rt; events.len(), 8);
     assert_eq!(rt; refusal(events[6]), Some(13));
     assert_eq!(rt; refusal(events[7]), Some(13));

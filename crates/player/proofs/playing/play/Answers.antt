@@ -14,6 +14,7 @@ returns g c =
       history = held (λ (es : List Event). Plays m c.args.number c.args.calls.now es) _ _ heard.0 c.new.ensures heard.2 heard.1.plays;
       played = held (λ (es : List Event). calls_of es ≡ c.args.calls.now) _ _ heard.0 c.new.ensures heard.2 heard.1.calls;
       register = (heard.0, heard.1);
+      memory = did.memory;
       only = did.only;
       laws = did.laws;
       standing = did.standing;

@@ -1,5 +1,5 @@
 -- A take from a layer: refused by its own tests, or granted below too.
-use Rattle.std.proofs.Common.{Err, sym, ap, ◌∙◌}
+use Rattle.std.proofs.Common.{Err, refl, sym, ap, ◌∙◌}
 use Rattle.std.proofs.lemmas.Result.{err_from_is_err_and}
 use Rattle.capacity.specs.Meaning.{Capacity, reserved, taken}
 use Rattle.capacity.specs.Answers.{take_tests}
@@ -15,7 +15,7 @@ returns-in_err-check_take g c =
     let n = reserved (g.R.Register.meaning c.args.self.now.below) (kept_of c.args.self.now.wishes) in
     let p = err_from_is_err_and c.from_residual.result c.from_residual.ensures.1 in
     let r = refused (take_tests n d.contract d.from d.to c.args.quantity) n _ _ _ (p.1 ∙ ap Err p.2) (c.in_err-check_take.ensures.answer n c.atc-flow.ensures) in
-    record { answer = r.0; after = r.1; memory = g.R.Register.chains.none c.args.self.now.below }
+    record { answer = r.0; after = r.1; memory = (refl, g.R.Register.chains.none c.args.self.now.below) }
 
 pub returns : goal.returns
 returns g c =
@@ -34,5 +34,5 @@ returns g c =
       after =
           ap (λ (t : Capacity). reserved t w) (c.take.ensures.after ∙ sym (passes_resulting (take_tests m k x y q) m (taken m k x y q) below))
           ∙ passes_resulting (take_tests n k x y q) n (taken n k x y q) above;
-      memory = c.take.ensures.memory;
+      memory = (refl, c.take.ensures.memory);
     }
