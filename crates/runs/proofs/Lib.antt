@@ -4,4 +4,5 @@ mod Telling
 pub mod Once
 mod Words
 mod Kept
-mod Backs
+mod ReadingBack
+mod Refused

@@ -22,10 +22,9 @@ use Rattle.reading.specs.Printing.{Line}
 use Rattle.reading.specs.Text.{lines, words}
 use Rattle.reading.proofs.Once.{not_both, one_making}
 use Rattle.lines.proofs.Once.{one_asking}
-use Rattle.runs.specs.Lines.{session_number, Outcome, unread, turn, LinesCome, all_printed}
-use Rattle.runs.specs.Maps.{Linked, Connects, map_printed, register_on}
+use Rattle.runs.specs.Lines.{session_number, Outcome, unread, turn, LinesCome, all_printed, OneOutcome}
+use Rattle.runs.specs.Maps.{Linked, Connects, OneLink, map_printed, register_on}
 use Rattle.runs.specs.Runs.{CallLines, MapLines, Misformed, Headed, ComesTo, OnePrint}
-use Rattle.runs.specs.Running.{OneOutcome, OneLink}
 
 -- ---- the lines of calls
 

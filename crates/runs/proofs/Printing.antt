@@ -24,11 +24,11 @@ use Rattle.reading.specs.Faults.{upward, word_number, word_place}
 use Rattle.lines.specs.Asking.{Asks, LineReadTo}
 use Rattle.runs.specs.declared.output.Printer.{Printer}
 use Rattle.runs.specs.Lines as outcome
-use Rattle.runs.specs.Lines.{Outcome, line_answer, LineComes, answer_line, printed, all_printed}
-use Rattle.runs.specs.Maps.{Linked, MapLine, map_printed, register_on}
+use Rattle.runs.specs.Lines.{Outcome, line_answer, LineComes, LineRun, answer_line, printed, all_printed}
+use Rattle.runs.specs.Maps.{Linked, MapLine, MapLineRun, map_printed, register_on}
 use Rattle.runs.specs.Output.{trade_line}
 use Rattle.runs.specs.Runs.{CallLines, MapLines, Misformed, Headed, Prints}
-use Rattle.runs.specs.Running.{FirstLine, HeaderRead, trades, Allowing, Printed, MapsBelow, CallsBelow, TurnsBelow, TurnRun, LineRun, MapLineRun, MapsRun, CallsRun, ScriptRun}
+use Rattle.runs.specs.Running.{FirstLine, HeaderRead, trades, Allowing, Printed, MapsBelow, CallsBelow, TurnsBelow, TurnRun, MapsRun, CallsRun, ScriptRun}
 
 -- ---- the header
 

@@ -11,7 +11,7 @@ use Rattle.runs.specs.Lines.{Outcome, unread, turn, session_number, LinesCome, e
 use Rattle.runs.specs.Runs.{CallLines}
 use Rattle.runs.specs.Running.{Turns}
 
-pub lines_reached : (m : Capacity) (ls : List (List ℕ)) (os : List Outcome) (h : List Event) (s t : State) → Reached m session_number h s → LinesCome s ls os t → Reached m session_number (events os h) t
+lines_reached : (m : Capacity) (ls : List (List ℕ)) (os : List Outcome) (h : List Event) (s t : State) → Reached m session_number h s → LinesCome s ls os t → Reached m session_number (events os h) t
 lines_reached m [] os h s t so (e, f) = subst (λ (x : List Outcome). Reached m session_number (events x h) t) (sym e) (subst (λ (u : State). Reached m session_number h u) (sym f) so)
 lines_reached m (l ∷ ls) [] h s t so r = absurd r
 lines_reached m (l ∷ ls) (unread e ∷ os) h s t so (u, line, rest) = lines_reached m ls os h u t (subst (λ (x : State). Reached m session_number h x) (sym line.1) so) rest

@@ -9,11 +9,13 @@ use Rattle.events.specs.Turns.{Turned, with_turn}
 use Rattle.reading.specs.declared.faults.WordFault.{WordFault}
 use Rattle.reading.specs.Faults.{upward}
 use Rattle.reading.specs.Output.{quiet_line}
-use Rattle.reading.specs.Printing.{Line}
+use Rattle.reading.specs.Printing.{Line, lines_text}
+use Rattle.reading.specs.declared.reader.Reader.{Reader}
+use Rattle.reading.specs.Reading.{ahead}
 use Rattle.reading.specs.Text.{words}
 use Rattle.lines.specs.declared.faults.LineFault.{LineFault}
 use Rattle.lines.specs.declared.faults.LineFault.TheVariants.{Word, Session}
-use Rattle.lines.specs.Asking.{Asks}
+use Rattle.lines.specs.Asking.{Asks, LineReadTo}
 use Rattle.runs.specs.Output.{refused_line, trade_line}
 
 -- the number of the session that a script runs
@@ -66,3 +68,17 @@ abbrev pub events : List Outcome → List Event → List Event
 events [] h = h
 events (unread e ∷ os) h = events os h
 events (turn k a xs r ∷ os) h = events os (with_turn session_number k a xs h)
+
+-- no other outcome of a line fits, and no other session after it
+abbrev pub OneOutcome : ℕ → ℕ → State → List (List ℕ) → Type 0
+OneOutcome p i s ws =
+    (o o' : Outcome) (t t' : State) → LineComes p i s ws o t → LineComes p i s ws o' t' → (o ≡ o') × (t ≡ t')
+
+-- The line at hand is run on the session s with a pass of number p, where H says what hearing a text makes of a sink: what the line comes
+-- to, how far it is read, what it is answered, and that just its lines are printed.
+pub record LineRun {S : Type 0} (H : S → List ℕ → S → Type 0) (s : State) (p : ℕ) (r : Reader) (before : S) (answer : Result (Unit {0}) LineFault) (t : State) (r' : Reader) (after : S) : Type 0 where
+  pub outcome : Outcome
+  pub comes : LineComes p r.words s (ahead r) outcome t
+  pub read : LineReadTo r (asked outcome) r'
+  pub answered : answer ≡ line_answer outcome
+  pub heard : H before (lines_text (printed r.lines outcome)) after

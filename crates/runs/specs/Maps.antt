@@ -13,7 +13,10 @@ use Rattle.reading.specs.declared.links.Link.{Link}
 use Rattle.reading.specs.Faults.{link_number, link_place, upward}
 use Rattle.reading.specs.Making.{MakesOfCounts, link_fields, link}
 use Rattle.reading.specs.Output.{refusal_line}
-use Rattle.reading.specs.Printing.{Line}
+use Rattle.reading.specs.declared.reader.Reader.{Reader}
+use Rattle.reading.specs.Fields.{WordsRead, StoppedAt}
+use Rattle.reading.specs.Printing.{Line, lines_text}
+use Rattle.reading.specs.Reading.{ahead}
 
 -- what an M line comes to
 abbrev pub Linked : Type 0
@@ -40,3 +43,18 @@ map_printed n (Err e) = refusal_line n (link_number e) (link_place e) ∷ []
 -- a reserve layer over a full table with all at nought
 abbrev pub register_on : Network → Capacity
 register_on m = reserved (fresh m.joins) m.kept
+
+-- no other answer to an M line fits, and no other map after it
+abbrev pub OneLink : ℕ → Network → List (List ℕ) → Type 0
+OneLink i m ws = (r r' : Linked) (n n' : Network) → MapLine i m ws r n → MapLine i m ws r' n' → (r ≡ r') × (n ≡ n')
+
+-- how far an M line is read: to its end, up to the word at fault, or not at all
+abbrev pub LinkReadTo : Reader → Linked → Reader → Type 0
+LinkReadTo s (Ok x) t = WordsRead 4 s t
+LinkReadTo s (Err (Map f)) t = WordsRead 4 s t
+LinkReadTo s (Err (Word e)) t = StoppedAt s e t
+
+-- the words of an M line after its letter are run: the map after them, what they are answered, and what is printed
+abbrev pub MapLineRun : {S : Type 0} → (S → List ℕ → S → Type 0) → Network → Reader → S → Linked → Network → S → Type 0
+MapLineRun H m r before answer m' after =
+    MapLine r.words m (ahead r) answer m' × H before (lines_text (map_printed r.lines answer)) after

@@ -1,20 +1,18 @@
 -- What the parts of a run have read and printed.
-use Rattle.std.specs.Prelude.{◌≡◌, ℕ, ◌+◌, Bool, true, false, List, [], ◌∷◌, ◌++◌, map, Ok, Err, Option, Result}
+use Rattle.std.specs.Prelude.{◌≡◌, ℕ, ◌+◌, Bool, true, false, List, [], ◌∷◌, ◌++◌, map, Option, Result}
 use Rattle.capacity.specs.Meaning.{Capacity}
 use Rattle.capacity.specs.Network.{Network, no_network}
 use Rattle.session.specs.Rounds.{Logged}
 use Rattle.session.specs.State.{State}
-use Rattle.reading.specs.declared.faults.LinkFault.TheVariants.{Word, Map}
 use Rattle.reading.specs.declared.reader.Reader.{Reader}
-use Rattle.reading.specs.Fields.{WordsRead, StoppedAt}
 use Rattle.reading.specs.Reading.{ahead, below}
 use Rattle.reading.specs.Output.{mark}
 use Rattle.reading.specs.Printing.{Line, lines_text}
 use Rattle.lines.specs.Asking.{LineReadTo}
 use Rattle.lines.specs.declared.faults.LineFault.{LineFault}
-use Rattle.runs.specs.Lines.{Outcome, unread, turn, asked, line_answer, LineComes, LinesCome, printed, all_printed}
+use Rattle.runs.specs.Lines.{Outcome, unread, turn, asked, line_answer, LineComes, LinesCome, all_printed}
 use Rattle.runs.specs.Output.{trade_line}
-use Rattle.runs.specs.Maps.{Linked, MapLine, map_printed, register_on}
+use Rattle.runs.specs.Maps.{register_on}
 use Rattle.runs.specs.Runs.{CallLines, MapLines, ComesTo}
 
 -- the first line is mark and version, and is read
@@ -28,25 +26,10 @@ abbrev pub HeaderRead : Reader → Bool → Reader → Type 0
 HeaderRead s true t = FirstLine (below s) true (below t) × (t.lines ≡ s.lines + 1)
 HeaderRead s false t = FirstLine (below s) false []
 
--- no other outcome of a line fits, and no other session after it
-abbrev pub OneOutcome : ℕ → ℕ → State → List (List ℕ) → Type 0
-OneOutcome p i s ws =
-    (o o' : Outcome) (t t' : State) → LineComes p i s ws o t → LineComes p i s ws o' t' → (o ≡ o') × (t ≡ t')
-
 -- the trades that a line makes
 abbrev pub trades : Outcome → List Logged
 trades (unread e) = []
 trades (turn k a xs r) = xs
-
--- no other answer to an M line fits, and no other map after it
-abbrev pub OneLink : ℕ → Network → List (List ℕ) → Type 0
-OneLink i m ws = (r r' : Linked) (n n' : Network) → MapLine i m ws r n → MapLine i m ws r' n' → (r ≡ r') × (n ≡ n')
-
--- how far an M line is read: to its end, up to the word at fault, or not at all
-abbrev pub LinkReadTo : Reader → Linked → Reader → Type 0
-LinkReadTo s (Ok x) t = WordsRead 4 s t
-LinkReadTo s (Err (Map f)) t = WordsRead 4 s t
-LinkReadTo s (Err (Word e)) t = StoppedAt s e t
 
 -- what lines may print, and the session that they leave
 abbrev pub Allowing : Type 1
@@ -72,27 +55,13 @@ TurnsBelow s r = Turns s (r.lines + 1) (below r)
 
 -- where H says what hearing a text makes of a sink
 module _ {S : Type 0} (H : S → List ℕ → S → Type 0) where
-  -- The line at hand is run on the session s with a pass of number p: what it comes to, how far it is read, what it is answered, and
-  -- that just its lines are printed.
-  pub record LineRun (s : State) (p : ℕ) (r : Reader) (before : S) (answer : Result (Unit {0}) LineFault) (t : State) (r' : Reader) (after : S) : Type 0 where
-    pub outcome : Outcome
-    pub comes : LineComes p r.words s (ahead r) outcome t
-    pub read : LineReadTo r (asked outcome) r'
-    pub answered : answer ≡ line_answer outcome
-    pub heard : H before (lines_text (printed r.lines outcome)) after
-
-  -- the same before its last line is printed
+  -- the line at hand is run on the session s with a pass of number p, before its last line is printed
   pub record TurnRun (s : State) (p : ℕ) (r : Reader) (before : S) (answer : Result (Unit {0}) LineFault) (t : State) (r' : Reader) (after : S) : Type 0 where
     pub outcome : Outcome
     pub comes : LineComes p r.words s (ahead r) outcome t
     pub read : LineReadTo r (asked outcome) r'
     pub answered : answer ≡ line_answer outcome
     pub heard : H before (lines_text (map trade_line (trades outcome))) after
-
-  -- the words of an M line after its letter are run: the map after them, what they are answered, and what is printed
-  abbrev pub MapLineRun : Network → Reader → S → Linked → Network → S → Type 0
-  MapLineRun m r before answer m' after =
-      MapLine r.words m (ahead r) answer m' × H before (lines_text (map_printed r.lines answer)) after
 
   -- some lines are printed, and with what Q allows after them they are what P allows
   abbrev pub Printed : Allowing → Allowing → S → S → Type 0

@@ -1,5 +1,5 @@
 // The lines of calls of a script, each a turn of one session.
-ghost use Rattle.std.specs.Prelude.{◌≡◌};
+ghost use Rattle.std.specs.Prelude.{◌≡◌, OnErr};
 ghost use Rattle.session.specs.State.{state};
 ghost use Rattle.events.specs.Events.{acceptance};
 ghost use Rattle.lines.specs.declared.faults.LineFault.TheVariants.{Session as ASession};
@@ -7,8 +7,8 @@ ghost use Rattle.reading.specs.Faults.{upward};
 ghost use Rattle.reading.specs.Fields.{InLine};
 ghost use Rattle.reading.specs.Printing.{line_text};
 ghost use Rattle.reading.specs.Reading.{ahead};
-ghost use Rattle.runs.specs.Lines.{answer_line};
-ghost use Rattle.runs.specs.Running.{OneOutcome, LineRun, TurnRun, CallsRun};
+ghost use Rattle.runs.specs.Lines.{answer_line, LineRun, OneOutcome};
+ghost use Rattle.runs.specs.Running.{TurnRun, CallsRun};
 
 use crate::output::Printer;
 use capacity::register::Register;
@@ -75,6 +75,7 @@ pub fn run_line<R: Register, S: TextSink>(
     ensures line { let s = state R.Register.meaning session.old in let t = state R.Register.meaning session.new in
         LineRun S.TextSink.hears s pass.number reader.old out.old.sink result.0 t reader.new out.new.sink }
     ensures only { OneOutcome pass.number reader.old.words (state R.Register.meaning session.old) (ahead reader.old) }
+    ensures refused { OnErr result.0 (state R.Register.meaning session.new ≡ state R.Register.meaning session.old) }
     ensures stays { InLine reader.old reader.new }
     ensures pass { result.1.number ≡ pass.number }
 {

@@ -1,10 +1,10 @@
 // The M lines of a script, and the map that they make.
-ghost use Rattle.std.specs.Prelude.{◌≡◌};
+ghost use Rattle.std.specs.Prelude.{◌≡◌, OnErr};
 ghost use Rattle.capacity.specs.Shapes.{network_of};
 ghost use Rattle.reading.specs.Fields.{InLine};
 ghost use Rattle.reading.specs.Reading.{ahead};
-ghost use Rattle.runs.specs.Maps.{MapLine};
-ghost use Rattle.runs.specs.Running.{LinkReadTo, OneLink, MapLineRun, MapsRun};
+ghost use Rattle.runs.specs.Maps.{MapLine, LinkReadTo, OneLink, MapLineRun};
+ghost use Rattle.runs.specs.Running.{MapsRun};
 
 use crate::output::Printer;
 use capacity::map::ConnectorMap;
@@ -35,6 +35,7 @@ pub fn run_map_line<S: TextSink>(
         MapLineRun S.TextSink.hears m reader.old out.old.sink result m' out.new.sink }
     ensures reads { LinkReadTo reader.old result reader.new }
     ensures only { OneLink reader.old.words (network_of map.old) (ahead reader.old) }
+    ensures refused { OnErr result (network_of map.new ≡ network_of map.old) }
     ensures stays { InLine reader.old reader.new }
 {
     let answer = map_line(map, reader);

@@ -1,7 +1,7 @@
 -- What the script prints is heard, is determined, and reads back.
 use Rattle.history.proofs.Once.{one_answer}
 use Rattle.history.proofs.Together.{laws_hold}
-use Rattle.runs.proofs.Backs.{reads_back}
+use Rattle.runs.proofs.ReadingBack.{reads_back}
 use Rattle.runs.proofs.Once.{one_print}
 use Rattle.runs.proofs.Printing.{printed_run}
 use Rattle.runs.specs.Runs.{left}
