@@ -1,6 +1,7 @@
 // The run of a script: its header, its map, and then its calls on a session over the map's register.
 ghost use Rattle.std.specs.Prelude.{◌≡◌, List};
 ghost use Rattle.history.specs.Laws.{LawsHold, OneAnswer};
+ghost use Rattle.history.specs.Stands.{StandingTold};
 ghost use Rattle.reading.specs.Printing.{Line, lines_text};
 ghost use Rattle.runs.specs.Running.{HeaderRead, ScriptRun};
 ghost use Rattle.runs.specs.Runs.{Prints, OnePrint, PrintsReadBack, left};
@@ -59,6 +60,7 @@ pub fn run<S: TextSink>(script: &[u8], out: S) -> Ran<S>
     ensures only { OnePrint script.now }
     ensures reads_back { PrintsReadBack script.now }
     ensures laws { LawsHold }
+    ensures standing { StandingTold }
     ensures once { OneAnswer }
 {
     let mut out = Printer { sink: out };

@@ -1,6 +1,7 @@
 -- What the script prints is heard, is determined, and reads back.
 use Rattle.history.proofs.Once.{one_answer}
 use Rattle.history.proofs.Together.{laws_hold}
+use Rattle.history.proofs.Told.{standing_told}
 use Rattle.runs.proofs.ReadingBack.{reads_back}
 use Rattle.runs.proofs.Once.{one_print}
 use Rattle.runs.proofs.Printing.{printed_run}
@@ -20,6 +21,9 @@ returns-clause-reads_back g c = reads_back c.args.script.now
 
 pub returns-clause-laws : goal.returns-clause-laws
 returns-clause-laws g c = laws_hold
+
+pub returns-clause-standing : goal.returns-clause-standing
+returns-clause-standing g c = standing_told
 
 pub returns-clause-once : goal.returns-clause-once
 returns-clause-once g c = one_answer
