@@ -1,5 +1,5 @@
 -- What a register shows of the two directions of a connector, and what it holds once both are replaced.
-use Rattle.std.specs.Prelude.{◌≡◌, ℕ, ◌+◌, ◌-◌, min, true, cond, ℤ, pos, ◌+ℤ◌, ◌-ℤ◌}
+use Rattle.std.specs.Prelude.{◌≡◌, ℕ, ◌+◌, ◌-◌, min, true, cond, ℤ, pos, ◌+ℤ◌, ◌-ℤ◌, int_lt}
 use Rattle.capacity.specs.declared.side.Side.{Side}
 use Rattle.capacity.specs.Directions.{put}
 use Rattle.capacity.specs.Meaning.{Capacity}
@@ -14,6 +14,13 @@ taken_there s t q = record s { used = s.used + (q - min t.used q) }
 
 abbrev pub taken_back : Side → ℕ → Side
 taken_back t q = record t { used = t.used - min t.used q }
+
+-- the two after a take of q is asked for: as they were if less can flow
+abbrev pub there_after : Side → Side → ℕ → Side
+there_after s t q = cond (int_lt (flow s t 0) (pos q)) s (taken_there s t q)
+
+abbrev pub back_after : Side → Side → ℕ → Side
+back_after s t q = cond (int_lt (flow s t 0) (pos q)) t (taken_back t q)
 
 -- s with another NTC and AAC
 abbrev pub figured : Side → ℕ → ℕ → Side

@@ -1,7 +1,7 @@
 // The tests of a take and of a notice, for any register.
-ghost use Rattle.std.specs.Prelude.{◌≡◌, ◌<◌, ◌≤◌, true, not, ◌&&◌, ◌==◌, None, Err};
+ghost use Rattle.std.specs.Prelude.{◌≡◌, ◌<◌, ◌≤◌, true, not, ◌&&◌, ◌==◌, Err};
 ghost use Rattle.capacity.specs.Tests.{answered, said};
-ghost use Rattle.capacity.specs.Faults.{told, refusal};
+ghost use Rattle.capacity.specs.Faults.{told};
 ghost use Rattle.capacity.specs.Meaning.{Capacity, atc};
 ghost use Rattle.capacity.specs.Answers.{asked, take_tests, notice_tests};
 
@@ -17,7 +17,7 @@ pub fn check_take(
     flow: Option<i32>,
 ) -> Result<(), RegisterFault>
     ensures answer { (m : Capacity) → flow ≡ asked m direction.contract direction.from direction.to (atc m direction.contract direction.from direction.to) → said told result ≡ answered (take_tests m direction.contract direction.from direction.to quantity) }
-    ensures no_contract { 23 < direction.contract → said told result ≡ Err (refusal 2 direction.contract direction.from direction.to None) }
+    ensures no_contract { 23 < direction.contract → result ≡ Err (RegisterFault.Contract direction) }
 {
     // Whatever `flow` is: a register may have one even there.
     if direction.contract > LAST_CONTRACT {

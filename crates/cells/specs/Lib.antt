@@ -3,5 +3,6 @@ pub mod Cells
 pub mod Meaning
 pub mod Shapes
 pub mod Lent
+pub mod Calls
 pub mod Soundness
 pub mod Quotes

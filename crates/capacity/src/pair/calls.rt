@@ -1,7 +1,7 @@
 // What can flow in a pair, and what a take and a notice make of it.
-ghost use Rattle.std.specs.Prelude.{◌≡◌, cond, pos, ◌-ℤ◌, int_lt};
+ghost use Rattle.std.specs.Prelude.{◌≡◌, cond, pos, ◌-ℤ◌};
 ghost use Rattle.capacity.specs.Sides.{no_side};
-ghost use Rattle.capacity.specs.Pairs.{flow, taken_there, taken_back, figured};
+ghost use Rattle.capacity.specs.Pairs.{flow, there_after, back_after, figured};
 ghost use Rattle.capacity.specs.Answers.{large};
 
 use crate::figures::Figures;
@@ -49,8 +49,8 @@ impl Pair {
 
     // After a take there, which first frees what was taken back; as it was if less can flow.
     pub fn taken(self, quantity: u32) -> Pair
-        ensures there { result.there ≡ cond (int_lt (flow self.there self.back 0) (pos quantity)) self.there (taken_there self.there self.back quantity) }
-        ensures back { result.back ≡ cond (int_lt (flow self.there self.back 0) (pos quantity)) self.back (taken_back self.back quantity) }
+        ensures there { result.there ≡ there_after self.there self.back quantity }
+        ensures back { result.back ≡ back_after self.there self.back quantity }
     {
         if self.atc(0) < i64::from(quantity) {
             return self;

@@ -1,11 +1,10 @@
 // The cells are a register: nothing is held, and as many pairs can be noted as there are cells.
 // Its own calls say of the cells that were lent what the trait cannot: which one each call sets, and that all others stay.
 ghost use Rattle.std.specs.Prelude.{◌≡◌, length, OnOk, OnErr};
-ghost use Rattle.capacity.specs.Tests.{answered, resulting, said};
+ghost use Rattle.capacity.specs.Tests.{answered, said};
 ghost use Rattle.capacity.specs.Faults.{told};
-ghost use Rattle.capacity.specs.Meaning.{taken, noticed};
-ghost use Rattle.capacity.specs.Answers.{take_tests, notice_tests};
 ghost use Rattle.capacity.specs.Shapes.{network_of};
+ghost use Rattle.cells.specs.Calls.{tests_of_take, after_take, tests_of_notice, after_notice};
 ghost use Rattle.cells.specs.Meaning.{unnoted};
 ghost use Rattle.cells.specs.Shapes.{in_use, cells_of};
 ghost use Rattle.cells.specs.Lent.{lent, lent_name, SetByTake, SetByNotice, SpareStay, spare_chains};
@@ -77,8 +76,8 @@ impl<'a> Register for CellRegister<'a> {
 
     // As the trait's, and sets the first cell in use for the pair. A refusal writes in no cell.
     fn take(&mut self, direction: Direction, quantity: u32) -> Result<(), RegisterFault>
-        ensures answer { said told result ≡ answered (take_tests (cells_of self.old) direction.contract direction.from direction.to quantity) }
-        ensures after { cells_of self.new ≡ resulting (take_tests (cells_of self.old) direction.contract direction.from direction.to quantity) (cells_of self.old) (taken (cells_of self.old) direction.contract direction.from direction.to quantity) }
+        ensures answer { said told result ≡ answered (tests_of_take (cells_of self.old) direction quantity) }
+        ensures after { cells_of self.new ≡ after_take (cells_of self.old) direction quantity }
         ensures memory { SpareStay self.old self.new }
         ensures refused { OnErr result (self.new ≡ self.old) }
         ensures set { OnOk result (SetByTake self.old self.new direction quantity) }
@@ -94,8 +93,8 @@ impl<'a> Register for CellRegister<'a> {
 
     // As the trait's, and sets the first cell in use for the pair, or the first spare one. A refusal writes in no cell.
     fn notice(&mut self, direction: Direction, figures: Figures) -> Result<(), RegisterFault>
-        ensures answer { said told result ≡ answered (notice_tests (cells_of self.old) direction.contract direction.from direction.to figures) }
-        ensures after { cells_of self.new ≡ resulting (notice_tests (cells_of self.old) direction.contract direction.from direction.to figures) (cells_of self.old) (noticed (cells_of self.old) direction.contract direction.from direction.to figures) }
+        ensures answer { said told result ≡ answered (tests_of_notice (cells_of self.old) direction figures) }
+        ensures after { cells_of self.new ≡ after_notice (cells_of self.old) direction figures }
         ensures memory { SpareStay self.old self.new }
         ensures refused { OnErr result (self.new ≡ self.old) }
         ensures set { OnOk result (SetByNotice self.old self.new direction figures) }
