@@ -23,6 +23,6 @@ returns g c =
     let k = c.args.contract in
     let a = by_fill capacity_before capacity_ordered (contract_tests s k) (CapacityLines s k) (one_list (capacity_lines s.capacity k)) c.args.lines.now
     (Gathered (ShowsDirection (g.R.Register.meaning c.register.result.now) k) 256)
-    (λ xs h. gathered_below _ 256 xs h ∙ rows (line_of (g.R.Register.meaning c.register.result.now) k) 16 ∙ ap (λ m. capacity_lines m k) c.register.ensures)
+    (λ xs h. gathered_below _ 256 xs h ∙ rows (line_of (g.R.Register.meaning c.register.result.now) k) 16 ∙ ap (λ m. capacity_lines m k) c.register.ensures.meaning)
     c.in_ok-check_view.ensures c.fill.result c.fill.new.lines c.fill.ensures in
     record { view = a.0; only = a.1; all = none_left_out s (g.R.Register.sound c.args.session.now.register) k }

@@ -26,7 +26,7 @@ returns-clause-only g c =
     let side = c.args.side in
     (by_fill book_before book_ordered (area_tests s k a) (BookLines s k a side) (one_book s k a side) c.args.lines.now
     (LinesOf (g.R.Register.meaning c.register-register.result.now) (orders c.book.result.now) k a side)
-    (λ xs h. rw (c.register-register.ensures, c.book.ensures) at h) c.in_ok-check_view_in.ensures c.fill.result c.fill.new.lines c.fill.ensures).1
+    (λ xs h. rw (c.register-register.ensures.meaning, c.book.ensures) at h) c.in_ok-check_view_in.ensures c.fill.result c.fill.new.lines c.fill.ensures).1
 
 pub returns-clause-ranks : goal.returns-clause-ranks
 returns-clause-ranks g c = as_ranked (state g.R.Register.meaning c.args.session.now) c.args.contract c.args.area c.args.side
