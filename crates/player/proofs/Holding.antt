@@ -12,7 +12,7 @@ added : (a : EventLog) (es : List Event) (b : EventLog) → Heard Adds a es b �
 added a [] b same g e = (g, ap told (sym same) ∙ e, sym (append-nil g))
 added a (e ∷ es) b (l, one, more) g q =
     let rest = added l es b more g q in
-    let first = one rest.0 rest.1 in
+    let first = one.adds rest.0 rest.1 in
     (first.0, first.1, rest.2 ∙ ap (λ (x : List Event). x ++ es) first.2 ∙ append_assoc first.0 (e ∷ []) es)
 
 if_ok : {T E : Type 0} (r : Result T E) (P : T → Type 0) → ((v : T) → r ≡ Ok v → P v) → IfOk r P
