@@ -133,7 +133,9 @@ impl<R: Register> Session<R> {
     // Ends a quiet session and gives its register back; refused, the session comes back with the pass.
     pub fn end(self, pass: QuietPass) -> Result<R, (Session<R>, Refused<QuietPass>)>
         ensures ended { ended R.Register.meaning result ≡ ending (state R.Register.meaning self) pass.number }
-        ensures register { MatchResult result (λ r. r ≡ register_of self) (λ e. register_of e.0 ≡ register_of self) }
+        ensures register { MatchResult result
+            (λ r. r ≡ register_of self)
+            (λ e. register_of e.0 ≡ register_of self) }
     {
         let checked = self.check_quiet(pass.number);
         // a match: each case moves the session, which `map_err` and `?` cannot

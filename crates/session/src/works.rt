@@ -27,7 +27,8 @@ impl<R: Register> Session<R> {
     ) -> Result<(), SessionFault>
         requires { F.IsAlwaysCallable call }
         ensures asked { (ts : List (Bool × Refusal)) (m : Capacity) → AnswersBy R.Register.meaning (FnOnceReturnsAtMut F.FnOnce call) self.old.register ts m → Asked (said told result) (state R.Register.meaning self.new) (state R.Register.meaning self.old) pass direction.contract ts m }
-        ensures memory { LeavesBy (FnOnceReturnsAtMut F.FnOnce call) R.leaves (register_of self.old) → R.leaves (register_of self.old) (register_of self.new) }
+        ensures memory { LeavesBy (FnOnceReturnsAtMut F.FnOnce call) R.leaves (register_of self.old)
+            → R.leaves (register_of self.old) (register_of self.new) }
     {
         self.check_quiet(pass)?;
         let contract = direction.contract;
