@@ -1,5 +1,5 @@
 -- What the parts of a run have read and printed.
-use Rattle.std.specs.Prelude.{◌≡◌, ℕ, ◌+◌, Bool, true, false, List, [], ◌∷◌, ◌++◌, map, Option, Result}
+use Rattle.std.specs.Prelude.{◌≡◌, ℕ, ◌+◌, Bool, true, false, List, [], ◌∷◌, ◌++◌, map, Ok, Err, Option, Result}
 use Rattle.capacity.specs.Meaning.{Capacity}
 use Rattle.capacity.specs.Network.{Network, no_network}
 use Rattle.session.specs.Rounds.{Logged}
@@ -8,8 +8,11 @@ use Rattle.reading.specs.declared.reader.Reader.{Reader}
 use Rattle.reading.specs.Reading.{ahead, below}
 use Rattle.reading.specs.Output.{mark}
 use Rattle.reading.specs.Printing.{Line, lines_text}
-use Rattle.lines.specs.Asking.{LineReadTo}
+use Rattle.events.specs.declared.calls.Call.{Call}
+use Rattle.reading.specs.declared.faults.WordFault.{WordFault}
+use Rattle.lines.specs.Asking.{Asks, LineReadTo}
 use Rattle.lines.specs.declared.faults.LineFault.{LineFault}
+use Rattle.lines.specs.declared.faults.LineFault.TheVariants.{Word}
 use Rattle.runs.specs.Lines.{Outcome, unread, turn, asked, line_answer, LineComes, LinesCome, all_printed}
 use Rattle.runs.specs.Output.{trade_line}
 use Rattle.runs.specs.Maps.{register_on}
@@ -25,6 +28,11 @@ FirstLine (l ∷ ls₀) false ls = l ≡ mark → ⊥
 abbrev pub HeaderRead : Reader → Bool → Reader → Type 0
 HeaderRead s true t = FirstLine (below s) true (below t) × (t.lines ≡ s.lines + 1)
 HeaderRead s false t = FirstLine (below s) false []
+
+-- the line asks for a call; or its words are at fault, which is carried upward whole
+abbrev pub AskedFor : Reader → Result Call LineFault → Reader → Type 0
+AskedFor r (Ok k) r' = Asks r.words (ahead r) (Ok k) × LineReadTo r (Ok k) r'
+AskedFor r (Err f) r' = (e : WordFault) × ((f ≡ Word e) × Asks r.words (ahead r) (Err e) × LineReadTo r (Err e) r')
 
 -- the trades that a line makes
 abbrev pub trades : Outcome → List Logged

@@ -8,10 +8,11 @@ ghost use Rattle.reading.specs.Fields.{InLine};
 ghost use Rattle.reading.specs.Printing.{line_text};
 ghost use Rattle.reading.specs.Reading.{ahead};
 ghost use Rattle.runs.specs.Lines.{answer_line, LineRun, OneOutcome};
-ghost use Rattle.runs.specs.Running.{TurnRun, CallsRun};
+ghost use Rattle.runs.specs.Running.{AskedFor, TurnRun, CallsRun};
 
 use crate::output::Printer;
 use capacity::register::Register;
+use events::calls::Call;
 use events::events::Answer;
 use events::performing::perform;
 use lines::asking::call;
@@ -32,6 +33,14 @@ fn accepted(answer: Answer) -> Result<(), LineFault>
     Ok(())
 }
 
+// The call that the line asks for, or a fault of its words, carried upward whole.
+fn asked(reader: &mut Reader) -> Result<Call, LineFault>
+    ensures asked { AskedFor reader.old result reader.new }
+    ensures stays { InLine reader.old reader.new }
+{
+    Ok(call(reader)?)
+}
+
 // Makes the call that the line asks for, runs its round to its end and prints its trades.
 // The parameters are those of `perform`, with the reader.
 fn take_turn<R: Register, S: TextSink>(
@@ -45,12 +54,12 @@ fn take_turn<R: Register, S: TextSink>(
     ensures stays { InLine reader.old reader.new }
     ensures pass { result.1.number ≡ pass.number }
 {
-    match call(reader) {
+    match asked(reader) {
         Ok(call) => {
             let (answer, pass) = perform(session, pass, &call, out);
             (accepted(answer), pass)
         }
-        Err(fault) => (Err(LineFault::from(fault)), pass),
+        Err(fault) => (Err(fault), pass),
     }
 }
 
@@ -86,7 +95,7 @@ pub fn run_line<R: Register, S: TextSink>(
 }
 
 // Runs the lines that are left on a session begun over the register, and gives that session.
-pub(crate) fn run_calls<R: Register + Drop, S: TextSink>(
+pub(crate) fn run_calls<R: Register, S: TextSink>(
     register: R,
     reader: &mut Reader,
     out: &mut Printer<S>,
