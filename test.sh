@@ -1,7 +1,7 @@
 #!/usr/bin/env bash
-# Proves every listed crate from nothing, tries every must-fail edit, runs the programs and the tests (rt ci);
-# then runs the program on every script of samples/, and tries the programs under refused/, which must not compile.
-# Its last line is the tally of all.
+# Proves every listed crate, tries every must-fail edit, runs the programs and the tests (rt ci, which does not do again what
+# passed on this machine); then runs the program on every script of samples/ and on the longest, and tries the programs under
+# refused/, which must not compile. Its last line is the tally of all.
 set -u
 cd "$(dirname "$0")" || exit 2
 
