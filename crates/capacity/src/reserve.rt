@@ -3,7 +3,7 @@ ghost use Rattle.std.specs.Prelude.{◌≡◌, ◌+◌, min};
 ghost use Rattle.capacity.specs.Meaning.{reserved};
 ghost use Rattle.capacity.specs.Shapes.{network_of, kept_of, layered};
 ghost use Rattle.capacity.specs.Soundness.{layered_sound};
-ghost use Rattle.capacity.specs.Memory.{below_leaves, below_chains};
+ghost use Rattle.capacity.specs.Memory.{BelowLeaves, below_chains};
 
 use crate::checks::check_take;
 use crate::direction::Direction;
@@ -64,7 +64,7 @@ impl<R: Register> Register for Reserve<R> {
 
     ghost sound = { layered_sound R.Register.meaning R.Register.sound };
 
-    ghost leaves = { below_leaves R.Register.leaves };
+    ghost leaves = { BelowLeaves R.Register.leaves };
 
     ghost chains = { below_chains R.Register.leaves R.Register.chains };
 

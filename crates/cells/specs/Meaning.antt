@@ -5,7 +5,7 @@ use Rattle.capacity.specs.Tables.{on, sided}
 use Rattle.cells.specs.declared.cell.Cell.{Cell}
 use Rattle.cells.specs.Cells.{side_in, noted_in}
 
--- the cells in use are ys, and n are free
+-- the cells in use are ys, and n are spare
 abbrev pub celled : (ℕ → ℕ → Bool) → List Cell → ℕ → Capacity
 celled j ys n = sided j (side_in ys) (λ c a b. on j c a b && noted_in ys c a b) n
 

@@ -60,7 +60,7 @@ pub fn one_cell() -> Quote
     ask_in(&map, &mut cells)
 }
 
-// One pair noted in cells that were lent with anything in them: the first says what was noticed, all others stay.
+// One pair noted in cells that were lent with anything in them: the first says what was noticed from 0 to 1, all others stay.
 pub fn note_one(map: &ConnectorMap, cells: &mut [Cell]) -> Result<(), RegisterFault>
     ensures answer { said told result ≡ answered (first_notice (network_of map.now).joins (length cells.old)) }
     ensures first { OnOk result (side_in (take 1 cells.new) 3 0 1 ≡ record { ntc = 200; aac = 50; used = 0 }) }

@@ -22,7 +22,7 @@ impl<'a> CellRegister<'a> {
             .position(|cell| cell.names(direction))
     }
 
-    // Whether the pair has no cell, and none is free.
+    // Whether the pair has no cell, and none is spare.
     pub(crate) fn full(&self, direction: Direction) -> bool
         ensures { result ≡ (not (noted_in (in_use self.now) direction.contract direction.from direction.to) && (length self.now.cells.now - self.now.count == 0)) }
     {

@@ -1,4 +1,4 @@
-// Writing a cell: over its pair's, or in a free one.
+// Writing a cell: over its pair's, or in a spare one.
 ghost use Rattle.std.specs.Prelude.{◌≡◌, ◌<◌, length, position};
 ghost use Rattle.capacity.specs.Granted.{Served};
 ghost use Rattle.capacity.specs.Pairs.{paired};

@@ -20,7 +20,7 @@ pub mod AfterEntry
 pub mod AfterCalls
 pub mod AfterSteps
 pub mod Together
-pub mod Leading
+pub mod Extending
 pub mod Faults
 pub mod Once
 pub mod OneTurn

@@ -3,4 +3,4 @@ pub mod History
 pub mod Standing
 pub mod Stands
 pub mod Laws
-pub mod Leading
+pub mod Extending

@@ -4,7 +4,8 @@ ghost use Rattle.events.specs.declared.events.Event.TheVariants.{Called, Stepped
 ghost use Rattle.events.specs.Events.{HappensOn, PlacesAfter, goes_on, round_follows};
 ghost use Rattle.events.specs.Performing.{LeftBy};
 ghost use Rattle.history.specs.Laws.{OneForCall, OneForStep};
-ghost use Rattle.history.specs.Leading.{LeadsOn};
+ghost use Rattle.history.specs.Extending.{ExtendsOn};
+ghost use Rattle.history.specs.Stands.{StandingTold};
 ghost use Rattle.session.specs.State.{state, register_of};
 
 use capacity::register::Register;
@@ -18,7 +19,8 @@ use session::state::Session;
 // Makes a call, as `events::making::make` does.
 pub fn make<R: Register>(session: &mut Session<R>, pass: QuietPass, call: &Call) -> (Answer, Left)
     ensures happens { HappensOn R.meaning session.old (Called pass.number call.now result.0) session.new }
-    ensures lawful { LeadsOn R.meaning session.old (Called pass.number call.now result.0) session.new }
+    ensures lawful { ExtendsOn R.meaning session.old (Called pass.number call.now result.0) session.new }
+    ensures standing { StandingTold }
     ensures once { OneForCall (state R.meaning session.old) pass.number }
     ensures left { LeftBy (round_follows call.now result.0) pass.number result.1 }
     ensures memory { R.leaves (register_of session.old) (register_of session.new) }
@@ -33,7 +35,8 @@ pub fn step<R: Register>(
     places: &mut [u32],
 ) -> (StepAnswer, Left)
     ensures happens { HappensOn R.meaning session.old (Stepped pass.number (length places.old) result.0) session.new }
-    ensures lawful { LeadsOn R.meaning session.old (Stepped pass.number (length places.old) result.0) session.new }
+    ensures lawful { ExtendsOn R.meaning session.old (Stepped pass.number (length places.old) result.0) session.new }
+    ensures standing { StandingTold }
     ensures once { OneForStep (state R.meaning session.old) pass.number }
     ensures left { LeftBy (goes_on result.0) pass.number result.1 }
     ensures places { PlacesAfter places.old result.0 places.new }

@@ -20,23 +20,16 @@ impl EventLog {
             events: Ok(Vec::new(heap)),
         }
     }
-
-    // Adds an event as the newest. As the log of `runs` adds text: a function for both would take type and step and be no shorter.
-    pub(crate) fn add(&mut self, event: Event)
-        ensures { Adds self.old event self.new }
-    {
-        if let Ok(events) = &mut self.events {
-            if let Err(failed) = events.push(event) {
-                self.events = Err(failed.into());
-            }
-        }
-    }
 }
 
 impl EventSink for EventLog {
     ghost hears = { Adds };
 
     fn hear(&mut self, event: &Event) {
-        self.add(*event);
+        if let Ok(events) = &mut self.events {
+            if let Err(failed) = events.push(*event) {
+                self.events = Err(failed.into());
+            }
+        }
     }
 }

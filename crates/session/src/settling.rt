@@ -46,7 +46,8 @@ impl<R: Register> Session<R> {
     // Takes the trade's quantity along its route, and off both orders.
     fn settle(&mut self, deal: &Deal)
         requires { (r : ARound) × Deals (state R.Register.meaning self.old).capacity (state R.Register.meaning self.old).book r deal.now.trade (listed deal.now.route) }
-        ensures after { state R.Register.meaning self.new ≡ after_trade (state R.Register.meaning self.old) deal.now.trade (listed deal.now.route) }
+        ensures after { state R.Register.meaning self.new
+            ≡ after_trade (state R.Register.meaning self.old) deal.now.trade (listed deal.now.route) }
         ensures memory { R.leaves (register_of self.old) (register_of self.new) }
     {
         let trade = deal.trade;

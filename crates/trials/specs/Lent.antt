@@ -4,10 +4,6 @@ use Rattle.capacity.specs.Meaning.{Capacity, reserved}
 use Rattle.capacity.specs.Network.{Network}
 use Rattle.cells.specs.Meaning.{unnoted}
 
--- these connectors, none noted, and room for k pairs
-abbrev pub lent : Network → ℕ → Capacity
-lent n k = unnoted n.joins k
-
--- with what is kept back on them
+-- these connectors, none noted, room for k pairs, and what is kept back on them
 abbrev pub lent_kept : Network → ℕ → Capacity
-lent_kept n k = reserved (lent n k) n.kept
+lent_kept n k = reserved (unnoted n.joins k) n.kept

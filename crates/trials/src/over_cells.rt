@@ -6,17 +6,16 @@ ghost use Rattle.cells.specs.Shapes.{cells_of};
 ghost use Rattle.cells.specs.Lent.{StandsIn};
 ghost use Rattle.events.specs.declared.events.Event.{Event as AnEvent};
 ghost use Rattle.player.specs.Playing.{Plays, GivesBack, OnePlaying, calls_of};
-ghost use Rattle.trials.specs.Lent.{lent, lent_kept};
+ghost use Rattle.cells.specs.Meaning.{unnoted};
+ghost use Rattle.trials.specs.Lent.{lent_kept};
 
 use capacity::map::ConnectorMap;
-use capacity::register::Register;
 use capacity::reserve::Reserve;
 use cells::cell::Cell;
 use cells::register::CellRegister;
 use events::calls::Call;
-use events::events::Event;
 use player::playing::{Playback, play};
-use std::alloc::{AllocError, Global};
+use std::alloc::Global;
 
 // As many pairs can be noted as there are cells, whatever the cells held.
 pub fn play_over_cells<'a>(
@@ -27,13 +26,13 @@ pub fn play_over_cells<'a>(
     calls: &[Call],
 ) -> Playback<CellRegister<'a>>
     ensures history { IfOk result.events (λ events.
-        Plays (lent (network_of map.now) (length cells.old)) number calls.now events.items) }
+        Plays (unnoted (network_of map.now).joins (length cells.old)) number calls.now events.items) }
     ensures played { IfOk result.events (λ events. calls_of events.items ≡ calls.now) }
     ensures register { (es : List AnEvent)
-        × GivesBack (lent (network_of map.now) (length cells.old)) number calls.now es
+        × GivesBack (unnoted (network_of map.now).joins (length cells.old)) number calls.now es
         (cells_of result.register) }
     ensures cells { StandsIn cells.entry.ghost_name cells.old result.register }
-    ensures only { OnePlaying (lent (network_of map.now) (length cells.old)) number calls.now }
+    ensures only { OnePlaying (unnoted (network_of map.now).joins (length cells.old)) number calls.now }
 {
     play(heap, number, CellRegister::new(map, cells), calls)
 }

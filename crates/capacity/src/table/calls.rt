@@ -5,7 +5,7 @@ ghost use Rattle.capacity.specs.Pairs.{Shows, paired};
 ghost use Rattle.capacity.specs.Tables.{fresh, place};
 ghost use Rattle.capacity.specs.Shapes.{joins_of, network_of, table_of};
 ghost use Rattle.capacity.specs.Soundness.{table_sound};
-ghost use Rattle.capacity.specs.Memory.{anything, anything_chains};
+ghost use Rattle.capacity.specs.Memory.{Anything, anything_chains};
 
 use crate::checks::{check_notice, check_take};
 use crate::direction::Direction;
@@ -66,7 +66,7 @@ impl Register for FullTable {
 
     ghost sound = { table_sound };
 
-    ghost leaves = { anything };
+    ghost leaves = { Anything };
 
     ghost chains = { anything_chains };
 

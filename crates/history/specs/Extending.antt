@@ -9,10 +9,10 @@ use Rattle.history.specs.Laws.{Lawful}
 
 -- By whatever events a session begun afresh, with any number and over any register, has come to s: with this one it has come to t, and
 -- the laws hold there.
-abbrev pub Leads : State → Event → State → Type 0
-Leads s e t = (m : Capacity) (n : ℕ) (h : List Event) → Sound m → Reached m n h s → Reached m n (e ∷ h) t × Lawful m (e ∷ h) t
+abbrev pub Extends : State → Event → State → Type 0
+Extends s e t = (m : Capacity) (n : ℕ) (h : List Event) → Sound m → Reached m n h s → Reached m n (e ∷ h) t × Lawful m (e ∷ h) t
 
 -- the same of a session
 module _ {R : Type 0} (meaning : R → Capacity) where
-  abbrev pub LeadsOn : Session R → Event → Session R → Type 0
-  LeadsOn before e after = Leads (state meaning before) e (state meaning after)
+  abbrev pub ExtendsOn : Session R → Event → Session R → Type 0
+  ExtendsOn before e after = Extends (state meaning before) e (state meaning after)
