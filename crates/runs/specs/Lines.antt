@@ -46,7 +46,7 @@ line_answer (turn k a xs r) = upward Session (acceptance a)
 abbrev pub session_refusal : Refusal → LineRefusal Refusal
 session_refusal r = lower_refusal (number_of r) r
 
--- what the line is told by: the number and place of its word's fault; or it is accepted, or told the session's refusal
+-- what the line is told by: number and place of its word's fault; of a turn, nothing or the session's refusal
 abbrev pub line_told : Outcome → Result (Unit {0}) (LineRefusal Refusal)
 line_told (unread e) = Err (own_refusal e)
 line_told (turn k a xs r) = said session_refusal (said session.told (acceptance a))
@@ -93,9 +93,10 @@ abbrev pub OneOutcome : ℕ → ℕ → State → List (List ℕ) → Type 0
 OneOutcome p i s ws =
     (o o' : Outcome) (t t' : State) → LineComes p i s ws o t → LineComes p i s ws o' t' → (o ≡ o') × (t ≡ t')
 
--- The line at hand is run on the session s with a pass of number p, where H says what hearing a text makes of a sink: what the line comes
--- to, how far it is read, what it is answered, by what it is told, and that of its lines just these are printed.
-pub record LinePart {S : Type 0} (H : Hearing S) (part : ℕ → Outcome → List Line) (s : State) (p : ℕ) (r : Reader) (before : S) (answer : Result (Unit {0}) LineFault) (t : State) (r' : Reader) (after : S) : Type 0 where
+-- The line at hand is run on the session s with a pass of number p, where H says what hearing a text makes of a sink:
+-- what it comes to, how far it is read, what it is answered, by what it is told, and which of its lines are heard.
+pub record LinePart {S : Type 0} (H : Hearing S) (part : ℕ → Outcome → List Line) (s : State) (p : ℕ) (r : Reader)
+    (before : S) (answer : Result (Unit {0}) LineFault) (t : State) (r' : Reader) (after : S) : Type 0 where
   pub outcome : Outcome
   pub comes : LineComes p r.words s (ahead r) outcome t
   pub read : LineReadTo r (asked outcome) r'
@@ -104,5 +105,6 @@ pub record LinePart {S : Type 0} (H : Hearing S) (part : ℕ → Outcome → Lis
   pub heard : H before (lines_text (part r.lines outcome)) after
 
 -- all its lines are printed
-abbrev pub LineRun : {S : Type 0} → Hearing S → State → ℕ → Reader → S → Result (Unit {0}) LineFault → State → Reader → S → Type 0
+abbrev pub LineRun : {S : Type 0} → Hearing S
+    → State → ℕ → Reader → S → Result (Unit {0}) LineFault → State → Reader → S → Type 0
 LineRun H = LinePart H printed

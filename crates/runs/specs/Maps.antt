@@ -40,12 +40,13 @@ MapLine i m ws r m' =
 abbrev pub map_refusal : MapRefusal → LineRefusal MapRefusal
 map_refusal r = lower_refusal r.number r
 
--- what an M line is told by that is read as this: the number and place of its word's fault, or the map's first test that applies
+-- what an M line is told by that is read as this: number and place of its word's fault;
+-- or, of the connector that it names, nothing or the refusal of the map's first test that applies
 abbrev pub connector_told : Network → Result Link WordFault → Result (Unit {0}) (LineRefusal MapRefusal)
 connector_told m (Err e) = Err (own_refusal e)
 connector_told m (Ok x) = said map_refusal (answered (connect_tests m x.from x.to x.held x.held_back))
 
--- so is the M line with these words after its letter
+-- so is an M line told with these words after its letter, which has i words with it before them
 abbrev pub LinkTold : ℕ → Network → List (List ℕ) → Linked → Type 0
 LinkTold i m ws r =
     (x : Result Link WordFault) × (MakesOfCounts i link_fields link ws x × (said link_told r ≡ connector_told m x))
@@ -69,9 +70,10 @@ LinkReadTo s (Ok x) t = WordsRead 4 s t
 LinkReadTo s (Err (Map f)) t = WordsRead 4 s t
 LinkReadTo s (Err (Word e)) t = StoppedAt s e t
 
--- The words of an M line after its letter are run, where H says what hearing a text makes of a sink: the map after them, what they are
--- answered, by what they are told, and what is printed.
-pub record MapLineRun {S : Type 0} (H : Hearing S) (m : Network) (r : Reader) (before : S) (answer : Linked) (m' : Network) (after : S) : Type 0 where
+-- The words of an M line after its letter are run, where H says what hearing a text makes of a sink:
+-- the map after them, what they are answered, by what they are told, and what is heard.
+pub record MapLineRun {S : Type 0} (H : Hearing S) (m : Network) (r : Reader)
+    (before : S) (answer : Linked) (m' : Network) (after : S) : Type 0 where
   pub comes : MapLine r.words m (ahead r) answer m'
   pub told : LinkTold r.words m (ahead r) answer
   pub heard : H before (lines_text (map_printed r.lines answer)) after

@@ -74,8 +74,9 @@ fn print_answer<S: TextSink>(out: &mut S, line: u32, answer: &Result<(), LineFau
     }
 }
 
-/// Runs the words that are left of the line at hand, its letter first, on a session: makes the call that they ask for, runs its round
-/// to the end and prints its trades, and then `Q` or `R`. Answers the fault that is printed, whole; a refused line changes nothing.
+/// Runs the words that are left of the line at hand, its letter first, on a session: makes the call that they ask for,
+/// runs its round to the end and prints its trades, and then `Q` or `R`.
+/// Answers the fault that is printed, whole; a refused line changes nothing.
 pub fn run_line<R: Register, S: TextSink>(
     session: &mut Session<R>,
     pass: QuietPass,

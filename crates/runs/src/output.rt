@@ -10,7 +10,8 @@ use reading::text::TextSink;
 use session::finishing::TradeLog;
 use trades::Trade;
 
-/// A sink, as the log of turns. It holds the sink by value: of one that is only lent, a log could not say what it is afterwards.
+/// A sink, as the log of turns. It holds the sink by value: of one that is only lent, a log could not say what it is
+/// afterwards.
 #[derive(Drop)]
 pub struct Printer<S> {
     pub sink: S,
