@@ -133,8 +133,8 @@ fn entry(reader: &mut Reader) -> Result<Call, WordFault>
     }))
 }
 
-// What the words that are left of the line ask for, its letter first. It is refused by 17 where letter, count of words, side or kind
-// is wrong, and by 18 to 20 for the leftmost word at fault.
+// What the words that are left of the line ask for, its letter first. It is refused by 17 where letter, count of words,
+// side or kind is wrong, and by 18 to 20 for the leftmost word at fault.
 #[tactic(auto, using(crate::proofs::Passed::line_read))]
 pub fn call(reader: &mut Reader) -> Result<Call, WordFault>
     ensures call { Asks reader.old.words (ahead reader.old) result }

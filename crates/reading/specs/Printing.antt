@@ -5,8 +5,8 @@ use Rattle.numbers.specs.declared.Unit.{Unit as Measure}
 use Rattle.numbers.specs.declared.Unit.TheVariants.{Count, Megawatt, Euro}
 use Rattle.numbers.specs.Printing.{shown}
 use Rattle.numbers.specs.Reading.{Answers}
-use Rattle.reading.specs.declared.output.NumberWord.{NumberWord}
-use Rattle.reading.specs.declared.output.NumberWord.TheVariants.{Plain, Amount, Flow, Price}
+use Rattle.reading.specs.declared.output.PrintedNumber.{PrintedNumber}
+use Rattle.reading.specs.declared.output.PrintedNumber.TheVariants.{Plain, Amount, Flow, Price}
 
 -- a number as it is printed: its unit, whether its reader allows a sign, and its count of units
 pub record Number : Type 0 where
@@ -30,7 +30,7 @@ flow z = record { unit = Megawatt; signed = true; count = z }
 abbrev pub price : ℤ → Number
 price z = record { unit = Euro; signed = true; count = z }
 
-abbrev pub number_of : NumberWord → Number
+abbrev pub number_of : PrintedNumber → Number
 number_of (Plain n) = plain n
 number_of (Amount q) = amount q
 number_of (Flow z) = flow z

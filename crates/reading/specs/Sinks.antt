@@ -5,7 +5,7 @@ use Rattle.std.specs.Prelude.{ℕ, List, [], ◌++◌}
 abbrev pub Hearing : Type 0 → Type 1
 Hearing S = S → List ℕ → S → Type 0
 
--- to hear nothing leaves it as it is, and to hear a text and then another is to hear both as one:
+-- a sink that is left as it is has heard the empty text, and to hear a text and then another is to hear both as one:
 -- so it tells what was heard, and not in which parts
 pub record Whole {S : Type 0} (hears : Hearing S) : Type 0 where
   pub nothing : (s : S) → hears s [] s

@@ -10,7 +10,7 @@ use numbers::{Shown, Unit, show};
 
 /// A number of a line, by what it counts.
 #[derive(Clone, Copy)]
-pub enum NumberWord {
+pub enum PrintedNumber {
     /// a contract, an area, a number of an order, of a line or of a refusal, a place, a count
     Plain(u32),
     /// a quantity, in tenths of a MW
@@ -29,15 +29,15 @@ pub trait Printed {
         ensures { text_of result ≡ shown (number self.now).unit (number self.now).count };
 }
 
-impl Printed for NumberWord {
+impl Printed for PrintedNumber {
     ghost number = { number_of };
 
     fn shown(&self) -> Shown {
         match *self {
-            NumberWord::Plain(n) => show(n, Unit::Count),
-            NumberWord::Amount(n) => show(n, Unit::Megawatt),
-            NumberWord::Flow(n) => show(n, Unit::Megawatt),
-            NumberWord::Price(n) => show(n, Unit::Euro),
+            PrintedNumber::Plain(n) => show(n, Unit::Count),
+            PrintedNumber::Amount(n) => show(n, Unit::Megawatt),
+            PrintedNumber::Flow(n) => show(n, Unit::Megawatt),
+            PrintedNumber::Price(n) => show(n, Unit::Euro),
         }
     }
 }
@@ -64,7 +64,7 @@ fn print_numbers<S: TextSink, N: Printed>(out: &mut S, numbers: &[N])
 pub fn print_route_line<S: TextSink>(
     out: &mut S,
     letter: &[u8],
-    numbers: &[NumberWord],
+    numbers: &[PrintedNumber],
     route: &[u32],
 )
     ensures { let all = map number_of numbers.now ++ map plain route.now in
@@ -77,7 +77,7 @@ pub fn print_route_line<S: TextSink>(
 }
 
 /// Prints a line: a letter and its numbers.
-pub fn print_line<S: TextSink>(out: &mut S, letter: &[u8], numbers: &[NumberWord])
+pub fn print_line<S: TextSink>(out: &mut S, letter: &[u8], numbers: &[PrintedNumber])
     ensures { let all = map number_of numbers.now in
         S.TextSink.hears out.old (line_text (record { letter = letter.now; numbers = all })) out.new }
 {
@@ -88,14 +88,14 @@ pub fn print_line<S: TextSink>(out: &mut S, letter: &[u8], numbers: &[NumberWord
 pub fn print_mark<S: TextSink>(out: &mut S)
     ensures { S.TextSink.hears out.old (line_text mark_line) out.new }
 {
-    print_line(out, b"CTM", &[NumberWord::Plain(1)]);
+    print_line(out, b"CTM", &[PrintedNumber::Plain(1)]);
 }
 
 /// Prints how many orders rest.
 pub fn quiet<S: TextSink>(out: &mut S, resting: u32)
     ensures { S.TextSink.hears out.old (line_text (quiet_line resting)) out.new }
 {
-    print_line(out, b"Q", &[NumberWord::Plain(resting)]);
+    print_line(out, b"Q", &[PrintedNumber::Plain(resting)]);
 }
 
 /// Prints that a line is refused, with the place 0 where no word is at fault.
@@ -109,9 +109,9 @@ pub fn refuse<S: TextSink, F: Refusal>(out: &mut S, line: u32, fault: &F)
         out,
         b"R",
         &[
-            NumberWord::Plain(line),
-            NumberWord::Plain(number),
-            NumberWord::Plain(place),
+            PrintedNumber::Plain(line),
+            PrintedNumber::Plain(number),
+            PrintedNumber::Plain(place),
         ],
     );
 }

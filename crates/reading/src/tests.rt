@@ -1,6 +1,6 @@
 // The lines that a run prints, as they run.
 use crate::faults::WordFault;
-use crate::output::{NumberWord, print_line, print_mark, print_route_line, quiet, refuse};
+use crate::output::{PrintedNumber, print_line, print_mark, print_route_line, quiet, refuse};
 use crate::text::{TextLog, TextSink};
 use numbers::NumberFault;
 use std::test::Fail;
@@ -26,14 +26,14 @@ fn lines_of_their_own(rt: HostRuntime) -> Result<(), Fail> {
 fn lines_of_numbers(rt: HostRuntime) -> Result<(), Fail> {
     let mut out = TextLog::new(rt.alloc());
     let trade = [
-        NumberWord::Plain(3),
-        NumberWord::Plain(1),
-        NumberWord::Plain(4294967295),
-        NumberWord::Price(-2147483648),
-        NumberWord::Amount(200),
+        PrintedNumber::Plain(3),
+        PrintedNumber::Plain(1),
+        PrintedNumber::Plain(4294967295),
+        PrintedNumber::Price(-2147483648),
+        PrintedNumber::Amount(200),
     ];
     print_route_line(&mut out, b"T", &trade, &[0, 15, 1]);
-    print_line(&mut out, b"A", &[NumberWord::Flow(-5)]);
+    print_line(&mut out, b"A", &[PrintedNumber::Flow(-5)]);
     print_line(&mut out, b"", &[]);
     let text = out.into_text()?;
     assert!(rt;

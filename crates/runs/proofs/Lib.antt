@@ -1,4 +1,5 @@
 -- Laws of what a run prints.
+mod Told
 mod Printing
 mod Telling
 pub mod Once

@@ -14,7 +14,7 @@ use Rattle.reading.specs.Fields.{first_letter, after_letter, letter_below, Lette
 use Rattle.reading.specs.Output.{mark, mark_line, refusal_line}
 use Rattle.reading.specs.Printing.{Line, line_text, lines_text}
 use Rattle.reading.specs.Reading.{unread, ahead, below, words_of, Begun, NextLine}
-use Rattle.reading.specs.Sinks.{Whole}
+use Rattle.reading.specs.Sinks.{Hearing, Whole}
 use Rattle.reading.proofs.Heard.{lines_text_append}
 use Rattle.reading.specs.Text.{words}
 use Rattle.lines.specs.declared.faults.LineFault.{LineFault}
@@ -24,11 +24,12 @@ use Rattle.reading.specs.Faults.{upward, word_number, word_place}
 use Rattle.lines.specs.Asking.{Asks, LineReadTo}
 use Rattle.runs.specs.declared.output.Printer.{Printer}
 use Rattle.runs.specs.Lines as outcome
-use Rattle.runs.specs.Lines.{Outcome, line_answer, LineComes, LineRun, answer_line, printed, all_printed}
+use Rattle.runs.specs.Lines.{Outcome, line_answer, LineComes, LineRun, answer_line, trade_lines, printed, all_printed}
 use Rattle.runs.specs.Maps.{Linked, MapLine, MapLineRun, map_printed, register_on}
 use Rattle.runs.specs.Output.{trade_line}
 use Rattle.runs.specs.Runs.{CallLines, MapLines, Misformed, Headed, Prints}
-use Rattle.runs.specs.Running.{FirstLine, HeaderRead, trades, Allowing, Printed, MapsBelow, CallsBelow, TurnsBelow, TurnRun, MapsRun, CallsRun, ScriptRun}
+use Rattle.runs.proofs.Told.{as_answered}
+use Rattle.runs.specs.Running.{FirstLine, HeaderRead, Allowing, PrintsSome, MapsBelow, CallsBelow, TurnsBelow, TurnRun, MapsRun, CallsRun, ScriptRun}
 
 -- ---- the header
 
@@ -74,7 +75,7 @@ map_ended m n [] x more other h = h
 map_ended m n (l ∷ ls) x more other h = inr (other, h)
 
 -- the last line that is printed for an outcome
-pub ends_with : (n p i r : ℕ) (o : Outcome) (s t : State) (ws : List (List ℕ)) → LineComes p i s ws o t → r ≡ length t.book → printed n o ≡ map trade_line (trades o) ++ answer_line n (line_answer o) r ∷ []
+pub ends_with : (n p i r : ℕ) (o : Outcome) (s t : State) (ws : List (List ℕ)) → LineComes p i s ws o t → r ≡ length t.book → printed n o ≡ trade_lines n o ++ answer_line n (line_answer o) r ∷ []
 ends_with n p i r (outcome.unread e) s t ws h rests = refl
 ends_with n p i r (outcome.turn k a xs q) s t ws h rests = ap (λ (j : ℕ). map trade_line xs ++ answer_line n (line_answer (outcome.turn k a xs q)) j ∷ []) (h.2 ∙ sym rests)
 
@@ -109,7 +110,7 @@ misheaded (l ∷ ls) out h k = inr (h, k)
 abbrev pub form_line : ℕ → Line
 form_line n = refusal_line n (word_number Form) (word_place Form)
 
-module _ {S : Type 0} (H : S → List ℕ → S → Type 0) (whole : Whole H) where
+module _ {S : Type 0} (H : Hearing S) (whole : Whole H) where
   -- ---- what a sink hears
 
   pub more_heard : (xs ys : List Line) (a b c : S) → H a (lines_text xs) b → H b (lines_text ys) c → H a (lines_text (xs ++ ys)) c
@@ -138,6 +139,7 @@ module _ {S : Type 0} (H : S → List ℕ → S → Type 0) (whole : Whole H) wh
     comes = (asks, did.turn, refl);
     read = read;
     answered = is;
+    told = as_answered (outcome.turn k a did.trades (length t.book)) answer is;
     heard = trades_heard did.trades before after (subst (λ (u : Printer S). Noted Notes u did.trades after) did.call_noted did.trades_noted);
   }
 
@@ -148,6 +150,7 @@ module _ {S : Type 0} (H : S → List ℕ → S → Type 0) (whole : Whole H) wh
     comes = (asks, refl);
     read = read;
     answered = ap Err is;
+    told = as_answered (outcome.unread e) (Err fault) (ap Err is);
     heard = whole.nothing before;
   }
 
@@ -162,32 +165,33 @@ module _ {S : Type 0} (H : S → List ℕ → S → Type 0) (whole : Whole H) wh
         comes = turn.comes;
         read = turn.read;
         answered = turn.answered;
+        told = turn.told;
         heard = subst (λ (out : List Line). H a (lines_text out) c) (sym (ends_with r.lines p r.words q o s t (ahead r) turn.comes rests))
-            (more_heard (map trade_line (trades o)) (ending ∷ []) a b c turn.heard (one_heard ending b c ended));
+            (more_heard (trade_lines r.lines o) (ending ∷ []) a b c turn.heard (one_heard ending b c ended));
       }
 
   -- ---- one line after another
 
-  pub none_printed : (P : Allowing) (a : S) → Printed H P P a a
+  pub none_printed : (P : Allowing) (a : S) → PrintsSome H P P a a
   none_printed P a = ([], (whole.nothing a, λ t more h. h))
 
-  printed_on : (P Q R : Allowing) (a b c : S) → Printed H P Q a b → Printed H Q R b c → Printed H P R a c
+  printed_on : (P Q R : Allowing) (a b c : S) → PrintsSome H P Q a b → PrintsSome H Q R b c → PrintsSome H P R a c
   printed_on P Q R a b c (x, (e, f)) (y, (g, h)) =
       (x ++ y, (more_heard x y a b c e g, λ t more r. rw append_assoc (f t (y ++ more) (h t more r))))
 
   -- one more M line, whose letter is read at t and whose words are read at u
-  pub map_more : (P : Allowing) (m m' : Network) (s t u : Reader) (r : Linked) (a b c : S) → Printed H P (MapsBelow m s) a b → MLine s t → MapLineRun H m t b r m' c → InLine t u → Printed H P (MapsBelow m' u) a c
-  map_more P m m' s t u r a b c so l (h, p) (ls, ns) =
+  pub map_more : (P : Allowing) (m m' : Network) (s t u : Reader) (r : Linked) (a b c : S) → PrintsSome H P (MapsBelow m s) a b → MLine s t → MapLineRun H m t b r m' c → InLine t u → PrintsSome H P (MapsBelow m' u) a c
+  map_more P m m' s t u r a b c so l run (ls, ns) =
       let e : below s ≡ l.line ∷ below u = l.next ∙ ap (λ x. l.line ∷ x) (sym ls) in
-      let first : MapLine 1 m (ahead t) r m' = subst (λ (i : ℕ). MapLine i m (ahead t) r m') l.one h in
+      let first : MapLine 1 m (ahead t) r m' = subst (λ (i : ℕ). MapLine i m (ahead t) r m') l.one run.comes in
       printed_on P (MapsBelow m s) (MapsBelow m' u) a b c so
-      (map_printed t.lines r, (p, λ x more k. rw (e, sym l.number) (inl (l.letter, (r, m', more, (subst (λ (x : List (List ℕ)). MapLine 1 m x r m') l.rest first, refl, rw ns at k))))))
+      (map_printed t.lines r, (run.heard, λ x more k. rw (e, sym l.number) (inl (l.letter, (r, m', more, (subst (λ (x : List (List ℕ)). MapLine 1 m x r m') l.rest first, refl, rw ns at k))))))
 
-  pub maps_done : (P : Allowing) (m : Network) (s : Reader) (a b : S) → Printed H P (MapsBelow m s) a b → (letter_below (below s) ≡ Some 77 → ⊥) → Printed H P (CallsBelow (register_on m) s) a b
+  pub maps_done : (P : Allowing) (m : Network) (s : Reader) (a b : S) → PrintsSome H P (MapsBelow m s) a b → (letter_below (below s) ≡ Some 77 → ⊥) → PrintsSome H P (CallsBelow (register_on m) s) a b
   maps_done P m s a b (x, (e, f)) other = (x, (e, λ u more h. f u more (map_ended m (s.lines + 1) (below s) u more other h)))
 
   -- one more line of calls, at hand at t and carried out at u
-  pub line_more : (P : Allowing) (x y : State) (p : ℕ) (s t u : Reader) (answer : Result (Unit {0}) LineFault) (a b c : S) → Printed H P (TurnsBelow x s) a b → p ≡ 1 → OneLine s t u → LineRun H x p t b answer y u c → Printed H P (TurnsBelow y u) a c
+  pub line_more : (P : Allowing) (x y : State) (p : ℕ) (s t u : Reader) (answer : Result (Unit {0}) LineFault) (a b c : S) → PrintsSome H P (TurnsBelow x s) a b → p ≡ 1 → OneLine s t u → LineRun H x p t b answer y u c → PrintsSome H P (TurnsBelow y u) a c
   line_more P x y p s t u answer a b c so number one run =
       let o = run.outcome in
       let comes : LineComes 1 0 x (words one.line) o y =
@@ -204,7 +208,7 @@ module _ {S : Type 0} (H : S → List ℕ → S → Type 0) (whole : Whole H) wh
         ),
       )
 
-  pub lines_done : (P : Allowing) (x : State) (s t : Reader) (a b : S) → Printed H P (TurnsBelow x s) a b → NextLine s false t → (out : List Line) × (H a (lines_text out) b × P x out)
+  pub lines_done : (P : Allowing) (x : State) (s t : Reader) (a b : S) → PrintsSome H P (TurnsBelow x s) a b → NextLine s false t → (out : List Line) × (H a (lines_text out) b × P x out)
   lines_done P x s t a b (out, (e, f)) (none, kept) =
       (out, (e, rw append-nil at (f x [] (rw none (record { outcomes = []; each = (refl, refl); printed = refl })))))
 

@@ -1,11 +1,11 @@
 -- What the parts of a run have read and printed.
-use Rattle.std.specs.Prelude.{◌≡◌, ℕ, ◌+◌, Bool, true, false, List, [], ◌∷◌, ◌++◌, map, Ok, Err, Option, Result}
+use Rattle.std.specs.Prelude.{◌≡◌, ℕ, ◌+◌, Bool, true, false, List, [], ◌∷◌, ◌++◌, Ok, Err, Option, Result}
 use Rattle.capacity.specs.Meaning.{Capacity}
 use Rattle.capacity.specs.Network.{Network, no_network}
-use Rattle.session.specs.Rounds.{Logged}
 use Rattle.session.specs.State.{State}
 use Rattle.reading.specs.declared.reader.Reader.{Reader}
 use Rattle.reading.specs.Reading.{ahead, below}
+use Rattle.reading.specs.Sinks.{Hearing}
 use Rattle.reading.specs.Output.{mark}
 use Rattle.reading.specs.Printing.{Line, lines_text}
 use Rattle.events.specs.declared.calls.Call.{Call}
@@ -13,8 +13,7 @@ use Rattle.reading.specs.declared.faults.WordFault.{WordFault}
 use Rattle.lines.specs.Asking.{Asks, LineReadTo}
 use Rattle.lines.specs.declared.faults.LineFault.{LineFault}
 use Rattle.lines.specs.declared.faults.LineFault.TheVariants.{Word}
-use Rattle.runs.specs.Lines.{Outcome, unread, turn, asked, line_answer, LineComes, LinesCome, all_printed}
-use Rattle.runs.specs.Output.{trade_line}
+use Rattle.runs.specs.Lines.{Outcome, LinesCome, all_printed, trade_lines, LinePart}
 use Rattle.runs.specs.Maps.{register_on}
 use Rattle.runs.specs.Runs.{CallLines, MapLines, ComesTo}
 
@@ -33,11 +32,6 @@ HeaderRead s false t = FirstLine (below s) false []
 abbrev pub AskedFor : Reader → Result Call LineFault → Reader → Type 0
 AskedFor r (Ok k) r' = Asks r.words (ahead r) (Ok k) × LineReadTo r (Ok k) r'
 AskedFor r (Err f) r' = (e : WordFault) × ((f ≡ Word e) × Asks r.words (ahead r) (Err e) × LineReadTo r (Err e) r')
-
--- the trades that a line makes
-abbrev pub trades : Outcome → List Logged
-trades (unread e) = []
-trades (turn k a xs r) = xs
 
 -- what lines may print, and the session that they leave
 abbrev pub Allowing : Type 1
@@ -62,22 +56,18 @@ abbrev pub TurnsBelow : State → Reader → Allowing
 TurnsBelow s r = Turns s (r.lines + 1) (below r)
 
 -- where H says what hearing a text makes of a sink
-module _ {S : Type 0} (H : S → List ℕ → S → Type 0) where
+module _ {S : Type 0} (H : Hearing S) where
   -- the line at hand is run on the session s with a pass of number p, before its last line is printed
-  pub record TurnRun (s : State) (p : ℕ) (r : Reader) (before : S) (answer : Result (Unit {0}) LineFault) (t : State) (r' : Reader) (after : S) : Type 0 where
-    pub outcome : Outcome
-    pub comes : LineComes p r.words s (ahead r) outcome t
-    pub read : LineReadTo r (asked outcome) r'
-    pub answered : answer ≡ line_answer outcome
-    pub heard : H before (lines_text (map trade_line (trades outcome))) after
+  abbrev pub TurnRun : State → ℕ → Reader → S → Result (Unit {0}) LineFault → State → Reader → S → Type 0
+  TurnRun = LinePart H trade_lines
 
   -- some lines are printed, and with what Q allows after them they are what P allows
-  abbrev pub Printed : Allowing → Allowing → S → S → Type 0
-  Printed P Q before after =
+  abbrev pub PrintsSome : Allowing → Allowing → S → S → Type 0
+  PrintsSome P Q before after =
       (out : List Line) × (H before (lines_text out) after × ((t : State) (more : List Line) → Q t more → P t (out ++ more)))
 
   abbrev pub MapsRun : Reader → S → Network → Reader → S → Type 0
-  MapsRun s before m t after = Printed (MapsBelow no_network s) (CallsBelow (register_on m) t) before after
+  MapsRun s before m t after = PrintsSome (MapsBelow no_network s) (CallsBelow (register_on m) t) before after
 
   abbrev pub CallsRun : Capacity → Reader → S → State → S → Type 0
   CallsRun m s before t after = (out : List Line) × (H before (lines_text out) after × CallsBelow m s t out)

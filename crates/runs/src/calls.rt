@@ -1,6 +1,6 @@
 // The lines of calls of a script, each a turn of one session.
 ghost use Rattle.std.specs.Prelude.{◌≡◌, OnErr};
-ghost use Rattle.session.specs.State.{state};
+ghost use Rattle.session.specs.State.{state, register_of};
 ghost use Rattle.events.specs.Events.{acceptance};
 ghost use Rattle.lines.specs.declared.faults.LineFault.TheVariants.{Session as ASession};
 ghost use Rattle.reading.specs.Faults.{upward};
@@ -53,6 +53,7 @@ fn take_turn<R: Register, S: TextSink>(
         TurnRun S.TextSink.hears s pass.number reader.old out.old.sink result.0 t reader.new out.new.sink }
     ensures stays { InLine reader.old reader.new }
     ensures pass { result.1.number ≡ pass.number }
+    ensures memory { R.Register.leaves (register_of session.old) (register_of session.new) }
 {
     match asked(reader) {
         Ok(call) => {
@@ -73,8 +74,9 @@ fn print_answer<S: TextSink>(out: &mut S, line: u32, answer: &Result<(), LineFau
     }
 }
 
-/// Runs the words that are left of the line at hand, its letter first, on a session: makes the call that they ask for, runs its round
-/// to the end and prints its trades, and then `Q` or `R`. Answers the fault that is printed, whole; a refused line changes nothing.
+/// Runs the words that are left of the line at hand, its letter first, on a session: makes the call that they ask for,
+/// runs its round to the end and prints its trades, and then `Q` or `R`.
+/// Answers the fault that is printed, whole; a refused line changes nothing.
 pub fn run_line<R: Register, S: TextSink>(
     session: &mut Session<R>,
     pass: QuietPass,
@@ -87,6 +89,7 @@ pub fn run_line<R: Register, S: TextSink>(
     ensures refused { OnErr result.0 (state R.Register.meaning session.new ≡ state R.Register.meaning session.old) }
     ensures stays { InLine reader.old reader.new }
     ensures pass { result.1.number ≡ pass.number }
+    ensures memory { R.Register.leaves (register_of session.old) (register_of session.new) }
 {
     let line = reader.line_number();
     let (answer, pass) = take_turn(session, pass, reader, out);

@@ -5,12 +5,13 @@ ghost use Rattle.runs.specs.Output.{trade_line};
 
 use events::events::Event;
 use events::performing::CallLog;
-use reading::output::{NumberWord, print_route_line};
+use reading::output::{PrintedNumber, print_route_line};
 use reading::text::TextSink;
 use session::finishing::TradeLog;
 use trades::Trade;
 
-/// A sink, as the log of turns. It holds the sink by value: of one that is only lent, a log could not say what it is afterwards.
+/// A sink, as the log of turns. It holds the sink by value: of one that is only lent, a log could not say what it is
+/// afterwards.
 #[derive(Drop)]
 pub struct Printer<S> {
     pub sink: S,
@@ -22,11 +23,11 @@ impl<S: TextSink> TradeLog for Printer<S> {
 
     fn note(&mut self, trade: &Trade, route: &[u32]) {
         let deal = [
-            NumberWord::Plain(trade.contract),
-            NumberWord::Plain(trade.buy),
-            NumberWord::Plain(trade.sell),
-            NumberWord::Price(trade.price),
-            NumberWord::Amount(trade.quantity),
+            PrintedNumber::Plain(trade.contract),
+            PrintedNumber::Plain(trade.buy),
+            PrintedNumber::Plain(trade.sell),
+            PrintedNumber::Price(trade.price),
+            PrintedNumber::Amount(trade.quantity),
         ];
         print_route_line(&mut self.sink, b"T", &deal, route);
     }

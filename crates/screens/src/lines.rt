@@ -4,7 +4,7 @@ ghost use Rattle.reading.specs.Printing.{line_text};
 ghost use Rattle.screens.specs.Lines.{capacity_line, side_letter, book_line};
 
 use book::rows::Side;
-use reading::output::{NumberWord, print_line};
+use reading::output::{PrintedNumber, print_line};
 use reading::text::TextSink;
 use views::lines::{BookLine, CapacityLine};
 
@@ -13,10 +13,10 @@ pub(crate) fn print_capacity_line<S: TextSink>(out: &mut S, contract: u32, line:
     ensures { S.TextSink.hears out.old (line_text (capacity_line contract line.now)) out.new }
 {
     let numbers = [
-        NumberWord::Plain(contract),
-        NumberWord::Plain(line.from),
-        NumberWord::Plain(line.to),
-        NumberWord::Flow(line.atc),
+        PrintedNumber::Plain(contract),
+        PrintedNumber::Plain(line.from),
+        PrintedNumber::Plain(line.to),
+        PrintedNumber::Flow(line.atc),
     ];
     print_line(out, b"A", &numbers);
 }
@@ -36,11 +36,11 @@ pub(crate) fn print_book_line<S: TextSink>(out: &mut S, contract: u32, area: u32
     ensures { S.TextSink.hears out.old (line_text (book_line contract area line.now)) out.new }
 {
     let numbers = [
-        NumberWord::Plain(contract),
-        NumberWord::Plain(area),
-        NumberWord::Plain(line.place as u32),
-        NumberWord::Price(line.limit),
-        NumberWord::Amount(line.quantity),
+        PrintedNumber::Plain(contract),
+        PrintedNumber::Plain(area),
+        PrintedNumber::Plain(line.place as u32),
+        PrintedNumber::Price(line.limit),
+        PrintedNumber::Amount(line.quantity),
     ];
     print_line(out, side_letter(line.side), &numbers);
 }

@@ -1,5 +1,5 @@
 -- What was asked for is made a turn, and its trades are heard; or nothing is.
-use Rattle.session.specs.State.{state}
+use Rattle.session.specs.State.{state, register_of}
 use Rattle.runs.proofs.Printing.{turn_run, unread_run}
 use Rattle.runs.proofs.calls.take_turn.Goals as goal
 
@@ -12,3 +12,6 @@ pub returns-in-Err-clause-turn : goal.returns-in-Err-clause-turn
 returns-in-Err-clause-turn g c =
     unread_run g.S.TextSink.hears g.S.TextSink.whole (state g.R.Register.meaning c.args.session.now) c.args.pass.number c.args.reader.now c.asked.new.reader c.in-Err.ensures.asked.0 c.in-Err.fault c.args.out.now.sink
     c.in-Err.ensures.asked.1.0 c.in-Err.ensures.asked.1.1 c.in-Err.ensures.asked.1.2
+
+pub returns-in-Err-clause-memory : goal.returns-in-Err-clause-memory
+returns-in-Err-clause-memory g c = g.R.Register.chains.none (register_of c.args.session.now)
