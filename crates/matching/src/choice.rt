@@ -61,12 +61,13 @@ impl Pairing<'_> {
         }
     }
 
-    // The highest-ranked sell in a pair of the round with the buy at `i`.
+    // The highest-ranked sell in a pair of the round with the buy at `i`, which is read once for all of them.
     fn best_sell(&self, i: usize) -> Option<usize>
         requires { Ready self.now }
         ensures { Best (Pairs self.now i) (orders self.now.book.now) result }
     {
-        best(self.book, self.sells(i), |j| self.pairs(i, j))
+        let buy = self.buy_at(i)?;
+        best(self.book, self.sells(i), |j| self.pairs(&buy, j))
     }
 
     // The highest-ranked buy in any pair of the round.
