@@ -1,5 +1,5 @@
 -- How `Book::retain` meets its contract.
-use Rattle.std.proofs.Common.{rules, ◌≡◌, ℕ, ◌<◌, length, take, get_or, set, filter, sym, refl, ap, ◌∙◌, subst, arith, length-take}
+use Rattle.std.proofs.Common.{rules, ◌≡◌, ℕ, ◌<◌, length, take, get_or, set, filter, sym, refl, ap, ◌∙◌, arith, length-take}
 use Rattle.std.proofs.lemmas.Fn.{says_at}
 use Rattle.book.specs.Ranks.{blank}
 use Rattle.book.proofs.Fronts.{first_rows}
