@@ -41,7 +41,10 @@ pub fn check_notice(
     joined: bool,
     full: bool,
 ) -> Result<(), RegisterFault>
-    ensures { (m : Capacity) → joined ≡ m.joins direction.from direction.to → (direction.contract ≤ 23 → joined ≡ true → large figures ≡ false → full ≡ (not (m.noted direction.contract direction.from direction.to) && (m.room == 0))) → said told result ≡ answered (notice_tests m direction.contract direction.from direction.to figures) }
+    ensures { (m : Capacity) → joined ≡ m.joins direction.from direction.to
+        → (direction.contract ≤ 23 → joined ≡ true → large figures ≡ false
+        → full ≡ (not (m.noted direction.contract direction.from direction.to) && (m.room == 0)))
+        → said told result ≡ answered (notice_tests m direction.contract direction.from direction.to figures) }
 {
     if direction.contract > LAST_CONTRACT {
         return Err(RegisterFault::Contract(direction));

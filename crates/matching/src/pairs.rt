@@ -55,7 +55,8 @@ impl Pairing<'_> {
 
     // The order at `i`, if it is a buy.
     pub(crate) fn buy_at(&self, i: usize) -> Option<Order>
-        ensures { MatchOption result ((j : ℕ) → Pairs self.now i j → ⊥) (λ buy. nth (orders self.now.book.now) i ≡ Some buy) }
+        ensures { MatchOption result ((j : ℕ) → Pairs self.now i j → ⊥)
+            (λ buy. nth (orders self.now.book.now) i ≡ Some buy) }
     {
         self.book.order(i).filter(|order| order.side == Side::Buy)
     }

@@ -38,6 +38,7 @@ impl Grid {
         ensures reach { (a : ℕ) → (0 < size_of result a → Reach (Leads self.now) a to) × (Reach (Leads self.now) a to → 0 < size_of result a) }
         ensures laws { Reaches }
     {
+        // As `towards` finds it, but before anything is made for the search.
         if to >= AREAS {
             return NO_SIZES;
         }

@@ -34,7 +34,8 @@ impl<'a> Levelled<'a> {
 
 impl Grid {
     // The route from one area to another, none exactly where no path leads.
-    // After the levels at most fifteen areas more are sought, each with at most sixteen tests; from no area no path leads, and none is sought.
+    // After the levels at most fifteen areas more are sought, each with at most sixteen tests.
+    // From no area no path leads, and none is sought.
     pub fn route(&self, from: u32, to: u32) -> Option<Route>
         ensures answer { MatchOption result ((xs : List ℕ) → Path (Leads self.now) from to xs → ⊥) (λ w. IsRoute (Leads self.now) from to (listed w)) }
         ensures only { (xs : List ℕ) → IsRoute (Leads self.now) from to xs → MatchOption result ⊥ (λ w. listed w ≡ xs) }
