@@ -16,7 +16,7 @@ pub with_room : (os : List Order) (o : Order) → length os < 128 → appended o
 with_room os o h = cond-true _ _ _ (lt-ltb _ _ h)
 
 -- the first n rows are k rows
-first_rows : {X : Type 0} (xs : List X) (n k : ℕ) → k ≡ length (take n xs) → take n xs ≡ take k xs
+pub first_rows : {X : Type 0} (xs : List X) (n k : ℕ) → k ≡ length (take n xs) → take n xs ≡ take k xs
 first_rows xs n k e = sym (ap (take k) (sym (take-append-drop n xs)) ∙ take_at (take n xs) (drop n xs) k (sym e))
 
 -- the rows from `at` on moved one down, and one fewer

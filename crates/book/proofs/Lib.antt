@@ -1,5 +1,6 @@
 -- Lemmas that the functions' proofs share.
 pub mod Fronts
+pub mod Keeping
 pub mod Searches
 pub mod Renewing
 pub mod Sifting

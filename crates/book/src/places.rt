@@ -1,12 +1,12 @@
 // The book: the orders of all contracts, oldest first.
-ghost use Rattle.std.specs.Prelude.{◌≡◌, ◌<◌, ◌≤◌, Bool, [], ◌∷◌, ◌++◌, length, None};
+ghost use Rattle.std.specs.Prelude.{◌≡◌, ◌<◌, ◌≤◌, Bool, [], ◌∷◌, ◌++◌, length, None, slice_index_or, slice_set};
 ghost use Rattle.std.specs.Fn.{FnReturnsAt};
 ghost use Rattle.std.specs.List.{filter, AllByRecursion};
 ghost use Rattle.book.specs.Icebergs.{Iced};
 ghost use Rattle.book.specs.Orderly.{Fit, Orderly};
 ghost use Rattle.book.specs.Orders.{rests};
 ghost use Rattle.book.specs.Refusals.{told};
-ghost use Rattle.book.specs.Ranks.{order_at};
+ghost use Rattle.book.specs.Ranks.{blank, order_at};
 ghost use Rattle.book.specs.declared.rows.Order.{Order};
 ghost use Rattle.book.specs.Places.{orders, append_refusal, appended, nth, without, place, Placed, numbered, numbered_of, of_contract, not_of_contract};
 
@@ -129,19 +129,31 @@ impl Book {
         self.rows[at..n].rotate_left(1);
     }
 
-    // Keeps the orders that pass a test; where all do, nothing is moved.
+    // Moves the row at `from` to `to`, if it does not stand there.
+    fn move_row(&mut self, from: usize, to: usize)
+        requires down { to ≤ from }
+        requires within { from < 128 }
+        ensures rows { self.new.rows ≡ slice_set self.old.rows to (slice_index_or self.old.rows from blank) }
+        ensures count { self.new.len ≡ self.old.len }
+    {
+        if to < from {
+            self.rows[to] = self.rows[from];
+        }
+    }
+
+    // Keeps the orders that pass a test, each moved at most once; where all do, nothing is moved.
     pub(crate) fn retain<F: Fn(&Order) -> bool>(&mut self, keep: F)
         requires { F.IsAlwaysCallable keep }
         ensures { (p : Order → Bool) → ((o : Order) (r : Bool) → FnReturnsAt F.Fn keep o r → r ≡ p o) → orders self.new ≡ filter p (orders self.old) }
     {
-        let mut at = 0;
-        for _row in 0..self.len() {
+        let mut kept = 0;
+        for at in 0..self.len() {
             if keep(&self.rows[at]) {
-                at += 1;
-            } else {
-                self.remove(at);
+                self.move_row(at, kept);
+                kept += 1;
             }
         }
+        self.len = kept;
     }
 
     // Takes the order of this number out if it is IOC, which never rests.

@@ -1,9 +1,9 @@
 // The tests of a take and of a notice, for any register.
-ghost use Rattle.std.specs.Prelude.{◌≡◌, ◌<◌, ◌≤◌, true, not, ◌&&◌, ◌==◌, Err};
+ghost use Rattle.std.specs.Prelude.{◌≡◌, ◌<◌, ◌≤◌, true, false, not, ◌&&◌, ◌==◌, Err};
 ghost use Rattle.capacity.specs.Tests.{answered, said};
 ghost use Rattle.capacity.specs.Faults.{told};
 ghost use Rattle.capacity.specs.Meaning.{Capacity, atc};
-ghost use Rattle.capacity.specs.Answers.{asked, take_tests, notice_tests};
+ghost use Rattle.capacity.specs.Answers.{asked, take_tests, large, notice_tests};
 
 use crate::direction::Direction;
 use crate::faults::RegisterFault;
@@ -41,7 +41,10 @@ pub fn check_notice(
     joined: bool,
     full: bool,
 ) -> Result<(), RegisterFault>
-    ensures { (m : Capacity) → joined ≡ m.joins direction.from direction.to → (direction.contract ≤ 23 → joined ≡ true → full ≡ (not (m.noted direction.contract direction.from direction.to) && (m.room == 0))) → said told result ≡ answered (notice_tests m direction.contract direction.from direction.to figures) }
+    ensures { (m : Capacity) → joined ≡ m.joins direction.from direction.to
+        → (direction.contract ≤ 23 → joined ≡ true → large figures ≡ false
+        → full ≡ (not (m.noted direction.contract direction.from direction.to) && (m.room == 0)))
+        → said told result ≡ answered (notice_tests m direction.contract direction.from direction.to figures) }
 {
     if direction.contract > LAST_CONTRACT {
         return Err(RegisterFault::Contract(direction));

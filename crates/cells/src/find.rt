@@ -1,14 +1,17 @@
 // Reading the cells: the place of a pair, and what is noted of it.
-ghost use Rattle.std.specs.Prelude.{◌≡◌, ◌-◌, ◌==◌, not, ◌&&◌, length, position};
+ghost use Rattle.std.specs.Prelude.{◌≡◌, true, false, position};
+ghost use Rattle.capacity.specs.Answers.{large};
 ghost use Rattle.capacity.specs.Granted.{Served};
 ghost use Rattle.capacity.specs.Pairs.{Shows};
 ghost use Rattle.capacity.specs.Shapes.{network_of};
-ghost use Rattle.cells.specs.Cells.{names, noted_in};
-ghost use Rattle.cells.specs.Shapes.{in_use, cells_of};
+ghost use Rattle.capacity.specs.Tables.{on};
+ghost use Rattle.cells.specs.Cells.{names};
+ghost use Rattle.cells.specs.Shapes.{in_use, cells_of, no_cell_left};
 ghost use Rattle.cells.specs.Lent.{side_of, side_back};
 
 use crate::register::CellRegister;
 use capacity::direction::Direction;
+use capacity::figures::Figures;
 use capacity::pair::Pair;
 
 impl<'a> CellRegister<'a> {
@@ -24,9 +27,17 @@ impl<'a> CellRegister<'a> {
 
     // Whether the pair has no cell, and none is spare.
     pub(crate) fn full(&self, direction: Direction) -> bool
-        ensures { result ≡ (not (noted_in (in_use self.now) direction.contract direction.from direction.to) && (length self.now.cells.now - self.now.count == 0)) }
+        ensures { result ≡ no_cell_left self.now direction }
     {
         self.find(direction).is_none() && self.count >= self.cells.len()
+    }
+
+    // Whether a notice that nothing else refuses finds no cell; the cells are gone through for such a one alone.
+    pub(crate) fn lacks_cell(&self, direction: Direction, figures: Figures) -> bool
+        ensures { on (network_of self.now.map.now).joins direction.contract direction.from direction.to ≡ true
+            → large figures ≡ false → result ≡ no_cell_left self.now direction }
+    {
+        self.map.serves(direction) && !figures.large() && self.full(direction)
     }
 
     // What the cells say of a pair, or nought.

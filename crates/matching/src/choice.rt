@@ -61,12 +61,13 @@ impl Pairing<'_> {
         }
     }
 
-    // The highest-ranked sell in a pair of the round with the buy at `i`.
+    // The highest-ranked sell in a pair of the round with the buy at `i`, which is read once for all of them.
     fn best_sell(&self, i: usize) -> Option<usize>
         requires { Ready self.now }
         ensures { Best (Pairs self.now i) (orders self.now.book.now) result }
     {
-        best(self.book, self.sells(i), |j| self.pairs(i, j))
+        let buy = self.buy_at(i)?;
+        best(self.book, self.sells(i), |j| self.pairs(&buy, j))
     }
 
     // The highest-ranked buy in any pair of the round.
@@ -82,7 +83,7 @@ impl Pairing<'_> {
 // The pair that the round trades: the highest-ranked buy in any pair of it, and the highest-ranked sell with that buy.
 // A regular round finds the incoming order's place, tries each place with it and it with each place, and goes through the sells for the buy found:
 // at most four times over the book's 128 places, where no number stands twice.
-// A batch tries all 128 × 128 pairs of places, and goes through the sells for the buy found once more.
+// A batch tries each buy with each place, at most 128 × 128 pairs, and goes through the sells for the buy found once more.
 pub fn choose(book: &Book, grid: &Grid, round: Round) -> Option<Pair>
     ensures chosen { MatchOption result ((i j : ℕ) → InRound (Leads grid.now) round (orders book.now) i j → ⊥) (λ p. Chosen (Leads grid.now) round (orders book.now) p.buy p.sell) }
     ensures only { (i j : ℕ) → Chosen (Leads grid.now) round (orders book.now) i j → MatchOption result ⊥ (λ p. (p.buy ≡ i) × (p.sell ≡ j)) }

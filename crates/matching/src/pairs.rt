@@ -1,5 +1,6 @@
 // Whether two orders may trade with each other in a round.
-ghost use Rattle.std.specs.Prelude.{Decides};
+ghost use Rattle.std.specs.Prelude.{◌≡◌, ℕ, Decides, MatchOption, Some};
+ghost use Rattle.book.specs.Places.{orders, nth};
 ghost use Rattle.matching.specs.Orders.{Meeting, Concerns, Trading};
 ghost use Rattle.matching.specs.Bests.{Pairs};
 ghost use Rattle.matching.specs.Ways.{Leading};
@@ -52,13 +53,21 @@ impl Pairing<'_> {
         meeting(buy, sell) && self.round.concerns(buy, sell) && self.ways.leads(sell.area, buy.area)
     }
 
-    // Whether the places `i` and `j` are a pair of the round.
-    pub(crate) fn pairs(&self, i: usize, j: usize) -> bool
-        ensures { Decides result (Pairs self.now i j) }
+    // The order at `i`, if it is a buy.
+    pub(crate) fn buy_at(&self, i: usize) -> Option<Order>
+        ensures { MatchOption result ((j : ℕ) → Pairs self.now i j → ⊥)
+            (λ buy. nth (orders self.now.book.now) i ≡ Some buy) }
     {
-        match (self.book.order(i), self.book.order(j)) {
-            (Some(buy), Some(sell)) => self.trading(&buy, &sell),
-            _ => false,
+        self.book.order(i).filter(|order| order.side == Side::Buy)
+    }
+
+    // Whether a buy and the order at `j` are a pair of the round, wherever the buy stands.
+    pub(crate) fn pairs(&self, buy: &Order, j: usize) -> bool
+        ensures { (i : ℕ) → nth (orders self.now.book.now) i ≡ Some buy.now → Decides result (Pairs self.now i j) }
+    {
+        match self.book.order(j) {
+            Some(sell) => self.trading(buy, &sell),
+            None => false,
         }
     }
 }

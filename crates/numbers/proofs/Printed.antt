@@ -1,12 +1,15 @@
--- What is printed is read back.
-use Rattle.std.proofs.Common.{◌≡◌, ℕ, ◌+◌, ◌*◌, ◌/◌, ◌%◌, ◌^◌, ◌<◌, ◌≤◌, Bool, true, false, List, [], ◌∷◌, ◌++◌, length, ℤ, pos, negsuc, nat_abs, Ok, decimal, sym, refl, ap, ◌∙◌, append-nil, arith, length-append}
+-- What is printed is read back, and is ASCII.
+use Rattle.std.proofs.Common.{◌≡◌, ℕ, ◌+◌, ◌*◌, ◌/◌, ◌%◌, ◌^◌, ◌<◌, ◌≤◌, Bool, true, false, List, [], ◌∷◌, ◌++◌, length, ℤ, pos, negsuc, nat_abs, Ok, decimal, codes, sym, refl, ap, ◌∙◌, append-nil, arith, length-append}
+use Rattle.std.specs.Str.{IsAscii}
 use Rattle.std.proofs.lemmas.Int.{ints}
-use Rattle.std.proofs.lemmas.Fmt.{digits_decimal, digits_value-decimal, decimal_nonempty, decimal_digit, length-decimal-le}
+use Rattle.std.proofs.lemmas.Fmt.{digits_decimal, digits_value-decimal, decimal_nonempty, decimal_digit, length-decimal-le, IsAscii-decimal}
+use Rattle.std.proofs.lemmas.Str.{IsAscii-append}
+use Rattle.std.proofs.lemmas.Str.Ascii.{IsAscii-nil, IsAscii-cons}
 use Rattle.numbers.specs.declared.Unit.{Unit as Measure}
 use Rattle.numbers.specs.declared.Unit.TheVariants.{Count, Megawatt, Euro}
 use Rattle.numbers.specs.Numerals.{Digit, AllDigits, number_on, minus_text, point_text, signed_as}
 use Rattle.numbers.specs.Numerals.Power.{bare}
-use Rattle.numbers.specs.Printing.{is_below, shown}
+use Rattle.numbers.specs.Printing.{is_below, shown_size, shown}
 use Rattle.numbers.specs.Reading.{scale_of, Means, InRange, Answers}
 use Rattle.numbers.proofs.Laws.{own}
 use Rattle.numbers.proofs.Bodies.{number_on_append}
@@ -61,6 +64,32 @@ printed Euro z few =
     (ap (λ x. minus_text (is_below z) ++ (decimal (n / 100) ++ (46 ∷ (x ++ decimal (n % 10))))) (decimal_digit _ t)
     ∙ ap (λ x. minus_text (is_below z) ++ (decimal (n / 100) ++ (46 ∷ (48 + n / 10 % 10) ∷ x))) (decimal_digit _ d))
 
+size_few : (sign : Bool) (z : ℤ) → InRange sign z → nat_abs z ≤ 2 ^ 31
+size_few true z r = omega (arith, ints)
+size_few false z r = omega (arith, ints)
+
 pub back : (unit : Measure) (sign : Bool) (z : ℤ) → InRange sign z → Answers (shown unit z) unit sign (Ok z)
-back unit true z r = (printed unit z (omega (arith, ints)), r)
-back unit false z r = (printed unit z (omega (arith, ints)), r)
+back unit sign z r = (printed unit z (size_few sign z r), r)
+
+-- ---- ASCII
+
+minus_ascii : (b : Bool) → IsAscii (minus_text b)
+minus_ascii true = IsAscii-cons 45 [] (omega arith) IsAscii-nil
+minus_ascii false = IsAscii-nil
+
+-- a point and more
+after_point : (bs : List ℕ) → IsAscii bs → IsAscii (codes "." ++ bs)
+after_point bs h = IsAscii-cons 46 bs (omega arith) h
+
+size_ascii : (unit : Measure) (n : ℕ) → n ≤ 2 ^ 31 → IsAscii (shown_size unit n)
+size_ascii Count n few = IsAscii-decimal n (omega arith)
+size_ascii Megawatt n few =
+    IsAscii-append (decimal (n / 10)) _ (IsAscii-decimal (n / 10) (omega arith))
+    (after_point (decimal (n % 10)) (IsAscii-decimal (n % 10) (omega arith)))
+size_ascii Euro n few =
+    IsAscii-append (decimal (n / 100)) _ (IsAscii-decimal (n / 100) (omega arith))
+    (after_point (decimal (n / 10 % 10) ++ decimal (n % 10))
+    (IsAscii-append (decimal (n / 10 % 10)) (decimal (n % 10)) (IsAscii-decimal (n / 10 % 10) (omega arith)) (IsAscii-decimal (n % 10) (omega arith))))
+
+pub shown_ascii : (unit : Measure) (sign : Bool) (z : ℤ) → InRange sign z → IsAscii (shown unit z)
+shown_ascii unit sign z r = IsAscii-append (minus_text (is_below z)) (shown_size unit (nat_abs z)) (minus_ascii (is_below z)) (size_ascii unit (nat_abs z) (size_few sign z r))

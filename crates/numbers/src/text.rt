@@ -17,11 +17,18 @@ pub struct Shown {
 }
 
 impl Shown {
+    /// Its text.
+    pub fn as_str(&self) -> &str
+        ensures { result.now ≡ text_of self.now }
+    {
+        self.text.as_str()
+    }
+
     /// Its bytes.
     pub fn as_bytes(&self) -> &[u8]
         ensures { result.now ≡ text_of self.now }
     {
-        self.text.as_str().as_bytes()
+        self.as_str().as_bytes()
     }
 }
 

@@ -69,6 +69,8 @@ impl<'a> Levelled<'a> {
     pub(crate) fn lowest(&self, a: u32, level: u32) -> Option<u32>
         ensures { MatchOption result (NoneOpen (Leads self.now.grid.now) self.now.levels.sizes a level) (λ b. LowestOpen (Leads self.now.grid.now) self.now.levels.sizes a level b) }
     {
-        (0..AREAS).find(|&b| self.grid.is_open(a, b) && self.levels.of(b) == level)
+        // By a name of its own, so that it is looked up once and not for each area.
+        let grid = self.grid;
+        (0..AREAS).find(|&b| grid.is_open(a, b) && self.levels.of(b) == level)
     }
 }

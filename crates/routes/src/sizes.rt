@@ -5,7 +5,7 @@ ghost use Rattle.routes.specs.Listed.{size_of};
 ghost use Rattle.routes.specs.Paths.{Size};
 ghost use Rattle.routes.specs.Laws.{Reach, Reaches};
 
-use crate::grid::Grid;
+use crate::grid::{AREAS, Grid};
 use crate::levels::Levelled;
 
 // The size where no path leads: a number and no Option, since it is the one that `Size` has there, and `0 <` asks for a path as plainly.
@@ -16,6 +16,11 @@ pub(crate) const NO_PATH: u32 = 0;
 pub struct Sizes {
     pub(crate) sizes: [u32; 16],
 }
+
+// The sizes of the routes to a number that is no area.
+const NO_SIZES: Sizes = Sizes {
+    sizes: [NO_PATH; 16],
+};
 
 impl Sizes {
     // The size from this area; 0 for a number that is no area.
@@ -33,11 +38,13 @@ impl Grid {
         ensures reach { (a : ℕ) → (0 < size_of result a → Reach (Leads self.now) a to) × (Reach (Leads self.now) a to → 0 < size_of result a) }
         ensures laws { Reaches }
     {
+        // As `towards` finds it, but before anything is made for the search.
+        if to >= AREAS {
+            return NO_SIZES;
+        }
         match Levelled::towards(self, to) {
             Some(levelled) => levelled.levels,
-            None => Sizes {
-                sizes: [NO_PATH; 16],
-            },
+            None => NO_SIZES,
         }
     }
 }

@@ -7,7 +7,7 @@ ghost use Rattle.routes.specs.Levels.{AllLevels};
 ghost use Rattle.routes.specs.Listed.{listed};
 ghost use Rattle.routes.specs.Paths.{Path, IsRoute};
 
-use crate::grid::Grid;
+use crate::grid::{AREAS, Grid};
 use crate::levels::Levelled;
 use crate::route::Route;
 use crate::sizes::NO_PATH;
@@ -35,12 +35,16 @@ impl<'a> Levelled<'a> {
 impl Grid {
     // The route from one area to another, none exactly where no path leads.
     // After the levels at most fifteen areas more are sought, each with at most sixteen tests.
+    // From no area no path leads, and none is sought.
     pub fn route(&self, from: u32, to: u32) -> Option<Route>
         ensures answer { MatchOption result ((xs : List ℕ) → Path (Leads self.now) from to xs → ⊥) (λ w. IsRoute (Leads self.now) from to (listed w)) }
         ensures only { (xs : List ℕ) → IsRoute (Leads self.now) from to xs → MatchOption result ⊥ (λ w. listed w ≡ xs) }
         ensures alike { (f g : ℕ → ℕ → Bool) → Alike f g }
         ensures example { Example }
     {
+        if from >= AREAS {
+            return None;
+        }
         Levelled::towards(self, to)?.route(from)
     }
 }

@@ -1,8 +1,11 @@
--- Every number of every line that a script prints reads back.
-use Rattle.std.proofs.Common.{◌≡◌, ℕ, ◌+◌, ◌≤◌, Bool, true, false, cond, List, [], ◌∷◌, map, length, ℤ, None, Ok, Err, Option, Result, ◌==◌, nat_lt, sym, refl, subst, inl, inr, arith}
+-- Every number of every line that a script prints reads back, and every line is ASCII, so what it prints is UTF-8.
+use Rattle.std.proofs.Common.{◌≡◌, ℕ, ◌+◌, ◌<◌, ◌≤◌, Bool, true, false, cond, List, [], ◌∷◌, map, length, ℤ, None, Ok, Err, Option, Result, ◌==◌, nat_lt, sym, refl, subst, inl, inr, arith}
 use Rattle.std.specs.List.{AllByRecursion}
-use Rattle.std.proofs.ByRecursion.{All-append}
+use Rattle.std.specs.Str.{IsAscii}
+use Rattle.std.proofs.ByRecursion.{All-append, All-weaker}
 use Rattle.std.proofs.lemmas.Int.{ints}
+use Rattle.std.proofs.lemmas.Str.{IsUtf8-from_ascii}
+use Rattle.std.proofs.lemmas.Str.Ascii.{IsAscii-nil, IsAscii-cons}
 use Rattle.numbers.specs.declared.NumberFault.{NumberFault}
 use Rattle.numbers.specs.declared.NumberFault.TheVariants as number
 use Rattle.numbers.specs.Reading.{fault_number}
@@ -39,21 +42,29 @@ use Rattle.reading.specs.declared.faults.WordFault.{WordFault}
 use Rattle.reading.specs.declared.faults.WordFault.TheVariants.{Form, Number}
 use Rattle.reading.specs.declared.faults.LinkFault.TheVariants as link
 use Rattle.reading.specs.Faults.{word_number, word_place, upward}
-use Rattle.reading.specs.Output.{refusal_line, place_figure}
-use Rattle.reading.specs.Printing.{Line, plain, price, ReadsBack, LineReadsBack}
+use Rattle.reading.specs.Output.{mark_line, refusal_line, place_figure}
+use Rattle.reading.specs.Printing.{Line, line_text, lines_text, plain, price, ReadsBack, LineReadsBack}
 use Rattle.reading.specs.Text.{onto, lines, words}
-use Rattle.reading.proofs.Printing.{plain_back, amount_back, price_back}
+use Rattle.reading.proofs.Printing.{plain_back, amount_back, price_back, line_ascii, lines_ascii}
 use Rattle.lines.specs.Asking.{Asks}
 use Rattle.lines.specs.declared.faults.LineFault.TheVariants.{Session}
 use Rattle.runs.specs.Lines.{Outcome, unread, turn, session_number, LineComes, LinesCome, answer_line, printed, all_printed}
 use Rattle.runs.specs.Maps.{Linked, MapLine, map_printed, register_on}
 use Rattle.runs.specs.Output.{trade_line}
-use Rattle.runs.specs.Runs.{CallLines, MapLines, Misformed, Headed, ComesTo, PrintsReadBack}
+use Rattle.runs.specs.Runs.{CallLines, MapLines, Misformed, Headed, ComesTo, Prints, PrintsReadBack, PrintsText}
 use Rattle.runs.proofs.Kept.{Placed, Kept, kept_fresh, kept_called, kept_makes, kept_turned}
 use Rattle.runs.proofs.Words.{most, Within, asks_within, link_within, asks_named}
 
-abbrev Back : List Line → Type 0
-Back out = AllByRecursion LineReadsBack out
+-- what every line that is printed keeps
+record Legible (l : Line) : Type 0 where
+  letter : IsAscii l.letter
+  back : LineReadsBack l
+
+abbrev AllLegible : List Line → Type 0
+AllLegible out = AllByRecursion Legible out
+
+letter_ascii : (c : ℕ) → c < 128 → IsAscii (c ∷ [])
+letter_ascii c few = IsAscii-cons c [] few IsAscii-nil
 
 -- ---- refusals
 
@@ -92,15 +103,16 @@ map_few : (f : MapFault) → (capacity.map_told f).number ≤ 20
 map_few (map_fault.Kept a b) = omega arith
 map_few (map_fault.Connector a b) = omega arith
 
-refusal_back : (n k : ℕ) (place : Option ℕ) → n ≤ most → k ≤ 20 → place_figure place ≤ 11 → LineReadsBack (refusal_line n k place)
-refusal_back n k place a b c = (plain_back n a, (plain_back k (omega arith), (plain_back (place_figure place) (omega arith), tt)))
+refusal_legible : (n k : ℕ) (place : Option ℕ) → n ≤ most → k ≤ 20 → place_figure place ≤ 11 → Legible (refusal_line n k place)
+refusal_legible n k place a b c =
+    record { letter = letter_ascii 82 (omega arith); back = (plain_back n a, (plain_back k (omega arith), (plain_back (place_figure place) (omega arith), tt))) }
 
 place_few : (e : WordFault) → Within 11 e → place_figure (word_place e) ≤ 11
 place_few Form w = omega arith
 place_few (Number k f) w = w
 
-word_back : (n : ℕ) (e : WordFault) → n ≤ most → Within 11 e → LineReadsBack (refusal_line n (word_number e) (word_place e))
-word_back n e few w = refusal_back n (word_number e) (word_place e) few (word_few e) (place_few e w)
+word_legible : (n : ℕ) (e : WordFault) → n ≤ most → Within 11 e → Legible (refusal_line n (word_number e) (word_place e))
+word_legible n e few w = refusal_legible n (word_number e) (word_place e) few (word_few e) (place_few e w)
 
 -- ---- trades
 
@@ -169,77 +181,80 @@ module _ (s u : State) (x : Logged) (makes : Makes s x u) (k : Kept s) where
   price_limits : InLimits x.trade.price
   price_limits = subst InLimits (sym d.at_price) (price_in makes.round d.i d.j b o buy_fit.1.0 sell_fit.1.0)
 
-  pub trade_back : LineReadsBack (trade_line x)
-  trade_back = (
-    plain_back x.trade.contract contract_few,
-    (
-      plain_back x.trade.buy (omega (arith, d.buy, buy_placed.number)),
+  trade_legible : Legible (trade_line x)
+  trade_legible = record {
+    letter = letter_ascii 84 (omega arith);
+    back = (
+      plain_back x.trade.contract contract_few,
       (
-        plain_back x.trade.sell (omega (arith, d.sell, sell_placed.number)),
+        plain_back x.trade.buy (omega (arith, d.buy, buy_placed.number)),
         (
-          limit_back x.trade.price price_limits,
+          plain_back x.trade.sell (omega (arith, d.sell, sell_placed.number)),
           (
-            amount_back x.trade.quantity quantity_few,
-            route_back (OpenIn s.capacity (traded_contract makes.round)) o.area b.area x.route d.route.0,
+            limit_back x.trade.price price_limits,
+            (
+              amount_back x.trade.quantity quantity_few,
+              route_back (OpenIn s.capacity (traded_contract makes.round)) o.area b.area x.route d.route.0,
+            ),
           ),
         ),
       ),
-    ),
-  )
+    );
+  }
 
-ran_back : (xs : List Logged) (s t : State) → Kept s → Ran s xs t → Back (map trade_line xs)
-ran_back [] s t k r = tt
-ran_back (x ∷ xs) s t k (u, makes, rest) = (trade_back s u x makes k, ran_back xs u t (kept_makes s u x makes k) rest)
+ran_legible : (xs : List Logged) (s t : State) → Kept s → Ran s xs t → AllLegible (map trade_line xs)
+ran_legible [] s t k r = tt
+ran_legible (x ∷ xs) s t k (u, makes, rest) = (trade_legible s u x makes k, ran_legible xs u t (kept_makes s u x makes k) rest)
 
-followed_back : (b : Bool) (xs : List Logged) (s t : State) → Kept s → Follows b s xs t → Back (map trade_line xs)
-followed_back true xs s t k f = ran_back xs s t k f
-followed_back false xs s t k f = subst (λ (ys : List Logged). Back (map trade_line ys)) (sym f.0) tt
+followed_legible : (b : Bool) (xs : List Logged) (s t : State) → Kept s → Follows b s xs t → AllLegible (map trade_line xs)
+followed_legible true xs s t k f = ran_legible xs s t k f
+followed_legible false xs s t k f = subst (λ (ys : List Logged). AllLegible (map trade_line ys)) (sym f.0) tt
 
 -- ---- lines of calls
 
-answer_back : (n : ℕ) (a : Answer) (r : ℕ) → n ≤ most → r ≤ 128 → LineReadsBack (answer_line n (upward Session (acceptance a)) r)
-answer_back n (Err f) r few rests = refusal_back n (number_of (told f)) None few (session_few f) (omega arith)
-answer_back n (Ok x) r few rests = (plain_back r (omega arith), tt)
+answer_legible : (n : ℕ) (a : Answer) (r : ℕ) → n ≤ most → r ≤ 128 → Legible (answer_line n (upward Session (acceptance a)) r)
+answer_legible n (Err f) r few rests = refusal_legible n (number_of (told f)) None few (session_few f) (omega arith)
+answer_legible n (Ok x) r few rests = record { letter = letter_ascii 81 (omega arith); back = (plain_back r (omega arith), tt) }
 
 outcome_kept : (p i : ℕ) (s t : State) (ws : List (List ℕ)) (o : Outcome) → i ≡ 0 → Kept s → LineComes p i s ws o t → Kept t
 outcome_kept p i s t ws (unread e) none k h = subst Kept (sym h.1) k
 outcome_kept p i s t ws (turn c a xs r) none k h = kept_turned s t p c a xs (asks_named ws c (subst (λ (j : ℕ). Asks j ws (Ok c)) none h.0)) h.1 k
 
-outcome_back : (n : ℕ) (s t : State) (ws : List (List ℕ)) (o : Outcome) → n ≤ most → Kept s → Kept t → LineComes session_number 0 s ws o t → Back (printed n o)
-outcome_back n s t ws (unread e) few k after h = (word_back n e few (asks_within ws e h.0), tt)
-outcome_back n s t ws (turn c a xs r) few k after h =
+outcome_legible : (n : ℕ) (s t : State) (ws : List (List ℕ)) (o : Outcome) → n ≤ most → Kept s → Kept t → LineComes session_number 0 s ws o t → AllLegible (printed n o)
+outcome_legible n s t ws (unread e) few k after h = (word_legible n e few (asks_within ws e h.0), tt)
+outcome_legible n s t ws (turn c a xs r) few k after h =
     let called = kept_called s k session_number c a h.1.called (asks_named ws c h.0) h.1.answered in
-    All-append LineReadsBack (map trade_line xs) (answer_line n (upward Session (acceptance a)) r ∷ [])
-    (followed_back (round_follows c a) xs h.1.called t called h.1.followed)
-    (answer_back n a r few (omega (arith, h.2, after.few)), tt)
+    All-append Legible (map trade_line xs) (answer_line n (upward Session (acceptance a)) r ∷ [])
+    (followed_legible (round_follows c a) xs h.1.called t called h.1.followed)
+    (answer_legible n a r few (omega (arith, h.2, after.few)), tt)
 
-outcomes_back : (ls : List (List ℕ)) (os : List Outcome) (n : ℕ) (s t : State) → n + length ls ≤ most → Kept s → LinesCome s ls os t → Back (all_printed n os)
-outcomes_back [] os n s t few k h = subst (λ (z : List Outcome). Back (all_printed n z)) (sym h.0) tt
-outcomes_back (l ∷ ls) [] n s t few k h = absurd h
-outcomes_back (l ∷ ls) (o ∷ os) n s t few k (u, first, rest) =
+outcomes_legible : (ls : List (List ℕ)) (os : List Outcome) (n : ℕ) (s t : State) → n + length ls ≤ most → Kept s → LinesCome s ls os t → AllLegible (all_printed n os)
+outcomes_legible [] os n s t few k h = subst (λ (z : List Outcome). AllLegible (all_printed n z)) (sym h.0) tt
+outcomes_legible (l ∷ ls) [] n s t few k h = absurd h
+outcomes_legible (l ∷ ls) (o ∷ os) n s t few k (u, first, rest) =
     let after = outcome_kept session_number 0 s u (words l) o refl k first in
-    All-append LineReadsBack (printed n o) (all_printed (n + 1) os)
-    (outcome_back n s u (words l) o (omega arith) k after first)
-    (outcomes_back ls os (n + 1) u t (omega arith) after rest)
+    All-append Legible (printed n o) (all_printed (n + 1) os)
+    (outcome_legible n s u (words l) o (omega arith) k after first)
+    (outcomes_legible ls os (n + 1) u t (omega arith) after rest)
 
-calls_back : (m : Capacity) (n : ℕ) (ls : List (List ℕ)) (t : State) (out : List Line) → n + length ls ≤ most → CallLines m n ls t out → Back out
-calls_back m n ls t out few h = subst Back (sym h.printed) (outcomes_back ls h.outcomes n (fresh session_number m) t few (kept_fresh session_number m) h.each)
+calls_legible : (m : Capacity) (n : ℕ) (ls : List (List ℕ)) (t : State) (out : List Line) → n + length ls ≤ most → CallLines m n ls t out → AllLegible out
+calls_legible m n ls t out few h = subst AllLegible (sym h.printed) (outcomes_legible ls h.outcomes n (fresh session_number m) t few (kept_fresh session_number m) h.each)
 
 -- ---- M lines
 
-link_back : (n : ℕ) (a : Result (Unit {0}) MapFault) → n ≤ most → Back (map_printed n (upward link.Map a))
-link_back n (Ok x) few = tt
-link_back n (Err f) few = (refusal_back n (capacity.map_told f).number None few (map_few f) (omega arith), tt)
+link_legible : (n : ℕ) (a : Result (Unit {0}) MapFault) → n ≤ most → AllLegible (map_printed n (upward link.Map a))
+link_legible n (Ok x) few = tt
+link_legible n (Err f) few = (refusal_legible n (capacity.map_told f).number None few (map_few f) (omega arith), tt)
 
-map_line_back : (n : ℕ) (m m' : Network) (ws : List (List ℕ)) (r : Linked) → n ≤ most → MapLine 1 m ws r m' → Back (map_printed n r)
-map_line_back n m m' ws r few (inl (e, (makes, is, after))) = subst (λ (x : Linked). Back (map_printed n x)) (sym is) (word_back n e few (link_within ws e makes), tt)
-map_line_back n m m' ws r few (inr (x, (makes, connects))) = subst (λ (x : Linked). Back (map_printed n x)) (sym connects.outcome) (link_back n connects.answer few)
+map_line_legible : (n : ℕ) (m m' : Network) (ws : List (List ℕ)) (r : Linked) → n ≤ most → MapLine 1 m ws r m' → AllLegible (map_printed n r)
+map_line_legible n m m' ws r few (inl (e, (makes, is, after))) = subst (λ (x : Linked). AllLegible (map_printed n x)) (sym is) (word_legible n e few (link_within ws e makes), tt)
+map_line_legible n m m' ws r few (inr (x, (makes, connects))) = subst (λ (x : Linked). AllLegible (map_printed n x)) (sym connects.outcome) (link_legible n connects.answer few)
 
-maps_back : (ls : List (List ℕ)) (m : Network) (n : ℕ) (t : State) (out : List Line) → n + length ls ≤ most → MapLines m n ls t out → Back out
-maps_back [] m n t out few h = calls_back (register_on m) n [] t out few h
-maps_back (l ∷ ls) m n t out few (inl (letter, (r, m', more, (line, printed, rest)))) =
-    subst Back (sym printed) (All-append LineReadsBack (map_printed n r) more (map_line_back n m m' _ r (omega arith) line) (maps_back ls m' (n + 1) t more (omega arith) rest))
-maps_back (l ∷ ls) m n t out few (inr h) = calls_back (register_on m) n (l ∷ ls) t out few h.1
+maps_legible : (ls : List (List ℕ)) (m : Network) (n : ℕ) (t : State) (out : List Line) → n + length ls ≤ most → MapLines m n ls t out → AllLegible out
+maps_legible [] m n t out few h = calls_legible (register_on m) n [] t out few h
+maps_legible (l ∷ ls) m n t out few (inl (letter, (r, m', more, (line, printed, rest)))) =
+    subst AllLegible (sym printed) (All-append Legible (map_printed n r) more (map_line_legible n m m' _ r (omega arith) line) (maps_legible ls m' (n + 1) t more (omega arith) rest))
+maps_legible (l ∷ ls) m n t out few (inr h) = calls_legible (register_on m) n (l ∷ ls) t out few h.1
 
 -- ---- the script
 
@@ -256,17 +271,31 @@ lines_few : (bs : List ℕ) → length (lines bs) ≤ length bs
 lines_few [] = omega arith
 lines_few (c ∷ cs) = pieces (c == 10) c cs (lines cs) (lines_few cs)
 
-misformed_back : (n : ℕ) (t : Option State) (out : List Line) → n ≤ most → Misformed n t out → Back out
-misformed_back n t out few h = subst Back (sym h.1) (word_back n Form few tt, tt)
+misformed_legible : (n : ℕ) (t : Option State) (out : List Line) → n ≤ most → Misformed n t out → AllLegible out
+misformed_legible n t out few h = subst AllLegible (sym h.1) (word_legible n Form few tt, tt)
 
-headed_back : (ls : List (List ℕ)) (t : Option State) (out : List Line) → length ls ≤ 65536 → Headed ls t out → Back out
-headed_back [] t out few h = misformed_back 1 t out (omega arith) h
-headed_back (l ∷ ls) t out few (inl (is, (u, (e, h)))) = maps_back ls no_network 2 u out (omega arith) h
-headed_back (l ∷ ls) t out few (inr h) = misformed_back 1 t out (omega arith) h.1
+headed_legible : (ls : List (List ℕ)) (t : Option State) (out : List Line) → length ls ≤ 65536 → Headed ls t out → AllLegible out
+headed_legible [] t out few h = misformed_legible 1 t out (omega arith) h
+headed_legible (l ∷ ls) t out few (inl (is, (u, (e, h)))) = maps_legible ls no_network 2 u out (omega arith) h
+headed_legible (l ∷ ls) t out few (inr h) = misformed_legible 1 t out (omega arith) h.1
 
-comes_back : (script : List ℕ) (t : Option State) (out : List Line) → ComesTo script t out → Back out
-comes_back script t out (inl h) = misformed_back 0 t out (omega arith) h.1
-comes_back script t out (inr h) = headed_back (lines script) t out (omega (arith, lines_few script, h.0)) h.1
+comes_legible : (script : List ℕ) (t : Option State) (out : List Line) → ComesTo script t out → AllLegible out
+comes_legible script t out (inl h) = misformed_legible 0 t out (omega arith) h.1
+comes_legible script t out (inr h) = headed_legible (lines script) t out (omega (arith, lines_few script, h.0)) h.1
+
+mark_legible : Legible mark_line
+mark_legible = record {
+  letter = IsAscii-cons 67 (84 ∷ 77 ∷ []) (omega arith) (IsAscii-cons 84 (77 ∷ []) (omega arith) (letter_ascii 77 (omega arith)));
+  back = (plain_back 1 (omega arith), tt);
+}
+
+prints_legible : (script : List ℕ) (t : Option State) (out : List Line) → Prints script t out → AllLegible out
+prints_legible script t out (rest, (printed, comes)) = subst AllLegible (sym printed) (mark_legible, comes_legible script t rest comes)
 
 pub reads_back : (script : List ℕ) → PrintsReadBack script
-reads_back script t out (rest, (printed, comes)) = subst Back (sym printed) ((plain_back 1 (omega arith), tt), comes_back script t rest comes)
+reads_back script t out p = All-weaker Legible LineReadsBack (λ l h. h.back) out (prints_legible script t out p)
+
+pub prints_text : (script : List ℕ) → PrintsText script
+prints_text script t out p =
+    let lines_are : AllByRecursion (λ l. IsAscii (line_text l)) out = All-weaker Legible (λ l. IsAscii (line_text l)) (λ l h. line_ascii l h.letter h.back) out (prints_legible script t out p) in
+    IsUtf8-from_ascii (lines_text out) (lines_ascii out lines_are)

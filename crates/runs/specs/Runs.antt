@@ -1,5 +1,5 @@
 -- What the run of a script prints, the history that it tells, and the session that it leaves.
-use Rattle.std.specs.Prelude.{◌≡◌, ℕ, ◌+◌, ◌<◌, ◌≤◌, ◌⊎◌, List, [], ◌∷◌, ◌++◌, length, Some, None, Option, ◌≢◌}
+use Rattle.std.specs.Prelude.{◌≡◌, ℕ, ◌+◌, ◌<◌, ◌≤◌, ◌⊎◌, List, [], ◌∷◌, ◌++◌, length, Some, None, Option, ◌≢◌, IsUtf8}
 use Rattle.std.specs.List.{AllByRecursion}
 use Rattle.std.specs.Option.{option_map}
 use Rattle.capacity.specs.declared.reserve.Reserve.{Reserve}
@@ -14,7 +14,7 @@ use Rattle.reading.specs.declared.faults.WordFault.TheVariants.{Form}
 use Rattle.reading.specs.Faults.{word_number, word_place}
 use Rattle.reading.specs.Fields.{first_letter, after_letter}
 use Rattle.reading.specs.Output.{mark, mark_line, refusal_line}
-use Rattle.reading.specs.Printing.{Line, LineReadsBack}
+use Rattle.reading.specs.Printing.{Line, lines_text, LineReadsBack}
 use Rattle.reading.specs.Text.{lines, words}
 use Rattle.runs.specs.Lines.{session_number, Outcome, LinesCome, all_printed, events}
 use Rattle.runs.specs.Maps.{Linked, MapLine, map_printed, register_on}
@@ -61,6 +61,10 @@ OnePrint script = (t t' : Option State) (out out' : List Line) → Prints script
 -- every number of every line that a script prints is in range of its reader, and reads back as the same count
 abbrev pub PrintsReadBack : List ℕ → Type 0
 PrintsReadBack script = (t : Option State) (out : List Line) → Prints script t out → AllByRecursion LineReadsBack out
+
+-- what a script prints is text: UTF-8
+abbrev pub PrintsText : List ℕ → Type 0
+PrintsText script = (t : Option State) (out : List Line) → Prints script t out → IsUtf8 (lines_text out)
 
 -- the session that a run leaves
 abbrev pub left : Option (Session (Reserve FullTable)) → Option State

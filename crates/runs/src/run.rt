@@ -4,7 +4,7 @@ ghost use Rattle.history.specs.Laws.{LawsHold, OneAnswer};
 ghost use Rattle.history.specs.Stands.{StandingTold};
 ghost use Rattle.reading.specs.Printing.{Line, lines_text};
 ghost use Rattle.runs.specs.Running.{HeaderRead, ScriptRun};
-ghost use Rattle.runs.specs.Runs.{Prints, OnePrint, PrintsReadBack, left};
+ghost use Rattle.runs.specs.Runs.{Prints, OnePrint, PrintsReadBack, PrintsText, left};
 
 use crate::calls::run_calls;
 use crate::maps::run_map;
@@ -59,6 +59,7 @@ pub fn run<S: TextSink>(script: &[u8], out: S) -> Ran<S>
         × Prints script.now (left result.session) lines × S.TextSink.hears out (lines_text lines) result.output }
     ensures only { OnePrint script.now }
     ensures reads_back { PrintsReadBack script.now }
+    ensures text { PrintsText script.now }
     ensures laws { LawsHold }
     ensures standing { StandingTold }
     ensures once { OneAnswer }

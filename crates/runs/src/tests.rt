@@ -1,4 +1,6 @@
 // Scripts as they run, with a heap and without one, and lines one by one with their faults.
+ghost use Rattle.std.specs.Prelude.{IfOk, IsOk};
+
 use crate::calls::run_line;
 use crate::maps::run_map_line;
 use crate::output::Printer;
@@ -12,6 +14,8 @@ use reading::reader::Reader;
 use reading::text::{TextLog, TextSink};
 use session::faults::SessionFault;
 use session::state::Session;
+use std::alloc::{AllocError, Global};
+use std::string::FromUtf8Error;
 use std::test::Fail;
 
 // A page of so many bytes, which hears as much as fits.
@@ -54,6 +58,31 @@ E 6 8 3 B 0 IOC 0.005 1 0 0
     let printed = b"CTM 1\nQ 0\nQ 1\nT 3 1 3 50.00 20.0 0 1\nQ 1\nR 6 19 8\n".as_slice();
     assert!(rt; page.len == printed.len());
     assert!(rt; page.bytes.starts_with(printed));
+    Ok(())
+}
+
+// What a script prints, as a String, which `from_utf8` always makes of it.
+fn printed(script: &[u8], heap: Global) -> Result<Result<String, FromUtf8Error>, AllocError>
+    ensures { IfOk result (λ text. IsOk text) }
+{
+    let bytes = run(script, TextLog::new(heap)).output.into_text()?;
+    Ok(String::from_utf8(bytes))
+}
+
+#[test]
+fn prints_text(rt: HostRuntime) -> Result<(), Fail> {
+    let script = b"CTM 1
+M 0 1 0 0
+N 3 0 1 20 0 0 0
+E 1 7 3 B 1 NON -0.5 30 0 0
+E 3 9 3 S 0 IOC -7e-1 25.5 0 0
+E 6 8 3 B 0 IOC 0.005 1 0 0
+";
+    let text = printed(script, rt.alloc())??;
+    assert_eq!(rt;
+        text.as_str(),
+        "CTM 1\nQ 0\nQ 1\nT 3 1 3 -0.50 20.0 0 1\nQ 1\nR 6 19 8\n"
+    );
     Ok(())
 }
 

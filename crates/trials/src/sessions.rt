@@ -2,6 +2,8 @@
 ghost use Rattle.std.specs.Prelude.{◌≡◌, Some};
 
 use book::rows::{Kind, OrderTerms, Side};
+use capacity::direction::Direction;
+use capacity::figures::Figures;
 use capacity::map::ConnectorMap;
 use capacity::reserve::Reserve;
 use capacity::table::FullTable;
@@ -68,9 +70,10 @@ fn plain(side: Side, limit: i32) -> OrderTerms {
     }
 }
 
-fn entered(
+fn entered_in(
     session: &mut Market,
     pass: QuietPass,
+    area: u32,
     number: u32,
     terms: OrderTerms,
 ) -> Result<RoundPass, Fail> {
@@ -78,12 +81,22 @@ fn entered(
         number,
         member: 7,
         contract: CONTRACT,
-        area: 0,
+        area,
         terms,
     };
     session
         .enter(pass, &entry)
         .map_err(|_| Fail::new("entry refused"))
+}
+
+// Enters an order in area 0.
+fn entered(
+    session: &mut Market,
+    pass: QuietPass,
+    number: u32,
+    terms: OrderTerms,
+) -> Result<RoundPass, Fail> {
+    entered_in(session, pass, 0, number, terms)
 }
 
 // Enters an order that meets none.
@@ -95,6 +108,34 @@ fn rested(
     terms: OrderTerms,
 ) -> Result<QuietPass, Fail> {
     let round = entered(session, pass, number, terms)?;
+    Ok(done(rt, session, round))
+}
+
+// From area 0 to another.
+fn way(to: u32) -> Direction {
+    Direction {
+        contract: CONTRACT,
+        from: 0,
+        to,
+    }
+}
+
+// 100 can flow there, and nothing back.
+fn noticed(
+    rt: &impl Abort,
+    session: &mut Market,
+    pass: QuietPass,
+    to: u32,
+) -> Result<QuietPass, Fail> {
+    let figures = Figures {
+        ntc: 100,
+        ntc_back: 0,
+        aac: 0,
+        aac_back: 0,
+    };
+    let round = session
+        .notice(pass, way(to), figures)
+        .map_err(|_| Fail::new("notice refused"))?;
     Ok(done(rt, session, round))
 }
 
@@ -183,5 +224,57 @@ fn changed_iceberg_is_newest(rt: HostRuntime) -> Result<(), Fail> {
     assert_eq!(rt; trade.sell, 1);
     assert_eq!(rt; trade.quantity, 50);
     assert_eq!(rt; session.resting(), 1);
+    Ok(())
+}
+
+// No more than was noticed is granted; all of it is, and that opens the way back, where both orders trade out.
+#[test]
+fn grant_leaves_none_resting(rt: HostRuntime) -> Result<(), Fail> {
+    let mut map = ConnectorMap::new();
+    let _ = map.connect(0, 1, 0, 0);
+    let (mut session, pass) = Session::begin(7, map.into_register());
+    let pass = noticed(&rt, &mut session, pass, 1)?;
+    let round = entered_in(&mut session, pass, 1, 1, plain(Side::Sell, 4_000))?;
+    let pass = done(&rt, &mut session, round);
+    let pass = rested(&rt, &mut session, pass, 2, plain(Side::Buy, 5_000))?;
+    let pass = match session.request(pass, way(1), 101) {
+        Err(Refused { fault, pass }) => {
+            assert_eq!(rt; fault.number(), 13);
+            pass
+        }
+        Ok(_) => panic!(rt; "granted"),
+    };
+    let round = session
+        .request(pass, way(1), 100)
+        .map_err(|_| Fail::new("request refused"))?;
+    let (trade, round) = stepped(&rt, &mut session, round);
+    let _pass = done(&rt, &mut session, round);
+    assert_eq!(rt; trade.quantity, 50);
+    assert_eq!(rt; trade.price, 4_000);
+    assert_eq!(rt; session.resting(), 0);
+    Ok(())
+}
+
+// The last sell goes to the better of two buys beyond a border; the other buy and the dearer sell stay.
+#[test]
+fn better_price_leaves_two_resting(rt: HostRuntime) -> Result<(), Fail> {
+    let mut map = ConnectorMap::new();
+    let _ = map.connect(0, 1, 0, 0);
+    let _ = map.connect(0, 2, 0, 0);
+    let (mut session, pass) = Session::begin(7, map.into_register());
+    let pass = noticed(&rt, &mut session, pass, 1)?;
+    let pass = noticed(&rt, &mut session, pass, 2)?;
+    let round = entered_in(&mut session, pass, 1, 1, plain(Side::Buy, 5_000))?;
+    let pass = done(&rt, &mut session, round);
+    let round = entered_in(&mut session, pass, 2, 2, plain(Side::Buy, 6_000))?;
+    let pass = done(&rt, &mut session, round);
+    let round = entered_in(&mut session, pass, 1, 3, plain(Side::Sell, 5_500))?;
+    let pass = done(&rt, &mut session, round);
+    let round = entered(&mut session, pass, 4, plain(Side::Sell, 4_500))?;
+    let (last, _pass) = run_out(&rt, &mut session, round);
+    let trade = last.ok_or("no trade")?;
+    assert_eq!(rt; trade.buyer, 2);
+    assert_eq!(rt; trade.price, 6_000);
+    assert_eq!(rt; session.resting(), 2);
     Ok(())
 }

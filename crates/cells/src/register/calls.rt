@@ -101,7 +101,7 @@ impl<'a> Register for CellRegister<'a> {
         ensures same_cells { lent_name self.new ≡ lent_name self.old }
     {
         let joined = self.map.joins(direction.from, direction.to);
-        let full = self.full(direction);
+        let full = self.lacks_cell(direction, figures);
         check_notice(direction, figures, joined, full)?;
         let pair = self.pair(direction);
         self.put(direction, pair.noticed(figures));

@@ -1,8 +1,8 @@
--- What the script prints is heard, is determined, and reads back.
+-- What the script prints is heard, is determined, reads back, and is text.
 use Rattle.history.proofs.Once.{one_answer}
 use Rattle.history.proofs.Together.{laws_hold}
 use Rattle.history.proofs.Told.{standing_told}
-use Rattle.runs.proofs.ReadingBack.{reads_back}
+use Rattle.runs.proofs.ReadingBack.{reads_back, prints_text}
 use Rattle.runs.proofs.Once.{one_print}
 use Rattle.runs.proofs.Printing.{printed_run}
 use Rattle.runs.specs.Runs.{left}
@@ -18,6 +18,9 @@ returns-clause-only g c = one_print c.args.script.now
 
 pub returns-clause-reads_back : goal.returns-clause-reads_back
 returns-clause-reads_back g c = reads_back c.args.script.now
+
+pub returns-clause-text : goal.returns-clause-text
+returns-clause-text g c = prints_text c.args.script.now
 
 pub returns-clause-laws : goal.returns-clause-laws
 returns-clause-laws g c = laws_hold

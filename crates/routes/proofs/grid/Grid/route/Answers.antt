@@ -7,6 +7,11 @@ use Rattle.routes.proofs.Ends.{path_areas}
 use Rattle.routes.proofs.Unique.{only_one}
 use Rattle.routes.proofs.grid.Grid.route.Goals as goal
 
+pub returns-then-from-ge-AREAS : goal.returns-then-from-ge-AREAS
+returns-then-from-ge-AREAS c =
+    let none : (xs : List ℕ) → Path (Leads c.args.self.now) c.args.from c.args.to xs → ⊥ = λ xs h. omega (arith, c.if-from-ge-AREAS.true, (path_areas _ _ _ xs h).0) in
+    record { answer = none; only = λ xs h. none xs h.0; alike = alike; example = diamond.example }
+
 pub returns-in_err-towards : goal.returns-in_err-towards
 returns-in_err-towards c =
     let none : (xs : List ℕ) → Path (Leads c.args.self.now) c.args.from c.args.to xs → ⊥ = λ xs h. omega (arith, c.in_err-towards.ensures, (path_areas _ _ _ xs h).1) in

@@ -20,3 +20,9 @@ returns-in-None c =
     let O = Leads c.args.self.now in
     let s : (a : ℕ) → Size O a c.args.to (lv (replicate 16 0) a) = λ a. size_none O a c.args.to (lv (replicate 16 0) a) (λ l. omega (arith, c.in-None.ensures)) (blank 16 a 0) in
     record { sizes = s; reach = λ a. size_reach O a c.args.to (lv (replicate 16 0) a) (s a); laws = λ f. reaching (Holds f) }
+
+pub returns-then-to-ge-AREAS : goal.returns-then-to-ge-AREAS
+returns-then-to-ge-AREAS c =
+    let O = Leads c.args.self.now in
+    let s : (a : ℕ) → Size O a c.args.to (lv (replicate 16 0) a) = λ a. size_none O a c.args.to (lv (replicate 16 0) a) (λ l. omega (arith, c.if-to-ge-AREAS.true)) (blank 16 a 0) in
+    record { sizes = s; reach = λ a. size_reach O a c.args.to (lv (replicate 16 0) a) (s a); laws = λ f. reaching (Holds f) }
